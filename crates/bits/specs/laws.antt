@@ -1,0 +1,6 @@
+-- Laws of fields and of the numbers that bits write, for theorems, proofs and other crates.
+pub mod Number
+pub mod Slices
+pub mod BigEndian
+pub mod Fields
+pub mod Readings

@@ -1,0 +1,3 @@
+-- What the contracts of `numbers` cite. In reading order.
+pub mod Numbers
+pub mod Theorems

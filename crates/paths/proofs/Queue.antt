@@ -1,0 +1,336 @@
+-- The state of a breadth-first search with a queue, and what each move of the search does to it, over plain lists.
+use Prim.Native.Nat.{ℕ, zero, suc, _+_, _*_, _-_, _≤_, _<_, zero-le}
+use native.Mathlib.Nat.{suc-mul, le-of-suc-le-suc, not-suc-le-zero, eq-or-lt-of-le}
+use native.Mathlib.Numerals.{add-one}
+use native.Mathlib.Omega.{arith}
+use native.Mathlib.Decide.{ℕ-discrete}
+use mathlib.Core.Bool.{true, cond}
+use mathlib.Core.Path.{_≡_, refl, sym, ap, _∙_, subst}
+use mathlib.Core.Logic.{_⊎_, inl, inr, ⊎-elim}
+use mathlib.Core.List.{List, [], _∷_}
+use lib.Dec.{eqb}
+use lib.ListN.{length, getD, set, replicate, length-set, length-replicate, getD-replicate}
+use lib.Seq.{getD-set-same, getD-set-other}
+use borrow.Author.Tests.{eq-eqb, ne-eqb}
+use borrow.Author.Count.{below-more}
+use Rattle.paths.specs.Paths.{Net, reach}
+use Rattle.paths.specs.laws.Reach.{reach-step, reach-here}
+use Rattle.paths.specs.laws.Cert.{Closed, Cert}
+
+-- how many of the first m elements are far
+unfoldable pub unset : ℕ → List ℕ → ℕ → ℕ
+unset far ds zero = zero
+unset far [] (suc m) = zero
+unset far (x ∷ ds) (suc m) = cond (eqb x far) 1 0 + unset far ds m
+
+pub unset-set : (far : ℕ) (ds : List ℕ) (m e v : ℕ) → e < m → e < length ds → getD ds e 0 ≡ far → (v ≡ far → ⊥) → unset far ds m ≡ suc (unset far (set ds e v) m)
+unfolding unset
+unset-set far ds zero e v h l q n = absurd (not-suc-le-zero h)
+unset-set far [] (suc m) e v h l q n = absurd (not-suc-le-zero l)
+unset-set far (x ∷ ds) (suc m) zero v h l q n = rw (eq-eqb x far q, ne-eqb v far n) (omega arith)
+unset-set far (x ∷ ds) (suc m) (suc e) v h l q n = omega (arith, unset-set far ds m e v (le-of-suc-le-suc h) (le-of-suc-le-suc l) q n)
+
+pub unset-all : (far k m : ℕ) → m ≤ k → unset far (replicate k far) m ≡ m
+unfolding unset
+unset-all far k zero h = refl
+unset-all far zero (suc m) h = absurd (not-suc-le-zero h)
+unset-all far (suc k) (suc m) h = rw (eq-eqb far far refl) (omega (arith, unset-all far k m (le-of-suc-le-suc h)))
+
+-- i stands in the queue, not yet expanded
+pub record Waits (qs : List ℕ) (head tail i : ℕ) : Type 0 where
+  pub at : ℕ
+  pub from : head ≤ at
+  pub below : at < tail
+  pub here : getD qs at 0 ≡ i
+
+pub record State (g : Net) (cap : ℕ) (ds qs : List ℕ) (head tail : ℕ) : Type 0 where
+  pub fits : g .size < g .far
+  pub goal-in : g .goal < g .size
+  pub big : g .size ≤ cap
+  pub room-d : length ds ≡ cap
+  pub room-q : length qs ≡ cap
+  pub order : head ≤ tail
+  pub count : tail + unset (g .far) ds (g .size) ≡ g .size
+  pub goal-zero : getD ds (g .goal) 0 ≡ 0
+  pub bound : (i : ℕ) → i < g .size → getD ds i 0 ≤ g .far
+  pub small : (i : ℕ) → i < g .size → getD ds i 0 < g .far → getD ds i 0 < tail
+  pub sound : (i : ℕ) → i < g .size → getD ds i 0 < g .far → reach g (getD ds i 0) i ≡ true
+  pub inside : (i : ℕ) → i < tail → getD qs i 0 < g .size
+  pub known : (i : ℕ) → i < tail → getD ds (getD qs i 0) 0 < g .far
+  pub sorted : (i j : ℕ) → i ≤ j → j < tail → getD ds (getD qs i 0) 0 ≤ getD ds (getD qs j 0) 0
+  pub top : head < tail → (i : ℕ) → i < g .size → getD ds i 0 < g .far → getD ds i 0 ≤ getD ds (getD qs head 0) 0 + 1
+  pub shut : (i : ℕ) → i < g .size → getD ds i 0 < g .far → Waits qs head tail i ⊎ Closed g (λ j. getD ds j 0) i
+  pub past : (i : ℕ) → g .size ≤ i → i < cap → getD ds i 0 ≡ g .far
+
+-- the neighbours below d of the clock c that is expanded have been looked at
+abbrev pub Seen : Net → List ℕ → ℕ → ℕ → Type 0
+Seen g ds c d = (j : ℕ) → j < d → g .adj j c ≡ true → getD ds j 0 ≤ getD ds c 0 + 1
+
+-- the queue has run out
+pub done : {g : Net} {cap : ℕ} {ds qs : List ℕ} {head tail : ℕ} → State g cap ds qs head tail → tail ≤ head → Cert g (λ i. getD ds i 0)
+done {g} {cap} {ds} {qs} {head} {tail} s h = record {
+  goal-zero = s .goal-zero;
+  bound = s .bound;
+  sound = s .sound;
+  closed = λ i l f. ⊎-elim (λ w. absurd (omega arith)) (λ k. k) (s .shut i l f);
+}
+
+-- the clock at the head has been expanded
+pub advance : {g : Net} {cap : ℕ} {ds qs : List ℕ} {head tail : ℕ} → State g cap ds qs head tail → head < tail → Seen g ds (getD qs head 0) (g .size) → State g cap ds qs (head + 1) tail
+advance {g} {cap} {ds} {qs} {head} {tail} s h seen = record {
+  fits = s .fits;
+  goal-in = s .goal-in;
+  big = s .big;
+  room-d = s .room-d;
+  room-q = s .room-q;
+  order = omega arith;
+  count = s .count;
+  goal-zero = s .goal-zero;
+  bound = s .bound;
+  small = s .small;
+  sound = s .sound;
+  inside = s .inside;
+  known = s .known;
+  sorted = s .sorted;
+  top = λ h′ i l f. omega (arith, s .top h i l f, s .sorted head (head + 1) (omega arith) h′);
+  shut = λ i l f. ⊎-elim (λ w. waits i w (eq-or-lt-of-le (w .from))) inr (s .shut i l f);
+  past = s .past;
+}
+  where
+    waits : (i : ℕ) (w : Waits qs head tail i) → (head ≡ w .at) ⊎ (head < w .at) → Waits qs (head + 1) tail i ⊎ Closed g (λ j. getD ds j 0) i
+    waits i w (inl e) = inr (subst (Closed g (λ j. getD ds j 0)) (ap (λ (p : ℕ). getD qs p 0) e ∙ w .here) seen)
+    waits i w (inr l) = inl (record { at = w .at; from = omega arith; below = w .below; here = w .here })
+
+-- a clock e with no distance yet is a neighbour of the clock at the head: it gets one more, and goes to the queue's end
+module _ {g : Net} {cap : ℕ} {ds qs : List ℕ} {head tail e : ℕ} (s : State g cap ds qs head tail) (h : head < tail) (l : e < g .size) (u : getD ds e 0 ≡ g .far) where
+  abbrev k′ : ℕ
+  k′ = getD ds (getD qs head 0) 0 + 1
+
+  abbrev ds′ : List ℕ
+  ds′ = set ds e k′
+
+  abbrev qs′ : List ℕ
+  qs′ = set qs tail e
+
+  -- the new distance
+  k′-le : k′ ≤ tail
+  k′-le = omega (arith, s .small (getD qs head 0) (s .inside head h) (s .known head h))
+
+  counts : unset (g .far) ds (g .size) ≡ suc (unset (g .far) ds′ (g .size))
+  counts =
+      unset-set (g .far) ds (g .size) e k′ l (omega (arith, s .room-d, s .big))
+      (u) (λ q. omega (arith, s .small (getD qs head 0) (s .inside head h) (s .known head h), s .count, s .fits))
+
+  -- the queue has room
+  pub room : tail < g .size
+  room = omega (arith, counts, s .count)
+
+  new : getD ds′ e 0 ≡ k′
+  new = getD-set-same ds e k′ 0 (omega (arith, s .room-d, s .big))
+
+  other : (i : ℕ) → (i ≡ e → ⊥) → getD ds′ i 0 ≡ getD ds i 0
+  other i n = getD-set-other ds e i k′ 0 n
+
+  keeps : (i : ℕ) → getD ds i 0 < g .far → getD ds′ i 0 ≡ getD ds i 0
+  keeps i f = other i (λ q. omega (arith, ap (λ (j : ℕ). getD ds j 0) q, u))
+
+  drops : (i : ℕ) → getD ds′ i 0 ≤ getD ds i 0
+  drops i = go (ℕ-discrete i e)
+    where
+      go : Dec (i ≡ e) → getD ds′ i 0 ≤ getD ds i 0
+      go (yes q) = rw q (omega (arith, new, u, k′-le, room, s .fits))
+      go (no n) = omega (arith, other i n)
+
+  queued : (i : ℕ) → i < tail → getD qs′ i 0 ≡ getD qs i 0
+  queued i q = getD-set-other qs tail i e 0 (λ r. omega arith)
+
+  last : getD qs′ tail 0 ≡ e
+  last = getD-set-same qs tail e 0 (omega (arith, room, s .room-q, s .big))
+
+  -- what holds of the new clock, and of each that had a distance, holds of each that has one now
+  each : (P : ℕ → Type 0) → P e → ((i : ℕ) → i < g .size → getD ds i 0 < g .far → P i) → (i : ℕ) → i < g .size → getD ds′ i 0 < g .far → P i
+  each P a b i m f = go (ℕ-discrete i e)
+    where
+      go : Dec (i ≡ e) → P i
+      go (yes q) = subst P (sym q) a
+      go (no n) = b i m (omega (arith, other i n))
+
+  -- and of each place of the queue
+  places : (P : ℕ → Type 0) → P tail → ((i : ℕ) → i < tail → P i) → (i : ℕ) → i < tail + 1 → P i
+  places P a b i m = go (eq-or-lt-of-le (le-of-suc-le-suc (rw add-one at m)))
+    where
+      go : (i ≡ tail) ⊎ (i < tail) → P i
+      go (inl q) = subst P (sym q) a
+      go (inr q) = b i q
+
+  -- the distance of the clock at a place
+  old-at : (i : ℕ) → i < tail → getD ds′ (getD qs′ i 0) 0 ≡ getD ds (getD qs i 0) 0
+  old-at i m = ap (λ (j : ℕ). getD ds′ j 0) (queued i m) ∙ keeps (getD qs i 0) (s .known i m)
+
+  new-at : getD ds′ (getD qs′ tail 0) 0 ≡ k′
+  new-at = ap (λ (j : ℕ). getD ds′ j 0) last ∙ new
+
+  pub put : g .adj e (getD qs head 0) ≡ true → State g cap ds′ qs′ head (tail + 1)
+  put a = record {
+    fits = s .fits;
+    goal-in = s .goal-in;
+    big = s .big;
+    room-d = rw length-set (s .room-d);
+    room-q = rw length-set (s .room-q);
+    order = omega arith;
+    count = omega (arith, counts, s .count);
+    goal-zero = keeps (g .goal) (omega (arith, s .goal-zero, s .fits)) ∙ s .goal-zero;
+    bound = λ i m. omega (arith, drops i, s .bound i m);
+    small = each (λ i. getD ds′ i 0 < tail + 1) (omega (arith, new, k′-le)) (λ i m f. omega (arith, keeps i f, s .small i m f));
+    sound = each (λ i. reach g (getD ds′ i 0) i ≡ true) (rw (new, add-one) (reach-step g _ e (getD qs head 0) l a (s .sound (getD qs head 0) (s .inside head h) (s .known head h)))) (λ i m f. rw (keeps i f) (s .sound i m f));
+    inside = places (λ i. getD qs′ i 0 < g .size) (rw last l) (λ i m. rw (queued i m) (s .inside i m));
+    known = places (λ i. getD ds′ (getD qs′ i 0) 0 < g .far) (omega (arith, new-at, k′-le, room, s .fits)) (λ i m. omega (arith, old-at i m, s .known i m));
+    sorted = λ i j p m.
+        places (λ j. (i : ℕ) → i ≤ j → getD ds′ (getD qs′ i 0) 0 ≤ getD ds′ (getD qs′ j 0) 0)
+        (λ i p.
+        places (λ i. getD ds′ (getD qs′ i 0) 0 ≤ getD ds′ (getD qs′ tail 0) 0) (omega arith)
+        (λ i m. omega (arith, old-at i m, new-at, s .top h (getD qs i 0) (s .inside i m) (s .known i m))) i (omega arith))
+        (λ j m i p. omega (arith, old-at i (omega arith), old-at j m, s .sorted i j p m)) j m i p;
+    top = λ _. each (λ i. getD ds′ i 0 ≤ getD ds′ (getD qs′ head 0) 0 + 1) (omega (arith, new, old-at head h)) (λ i m f. omega (arith, keeps i f, old-at head h, s .top h i m f));
+    shut = each (λ i. Waits qs′ head (tail + 1) i ⊎ Closed g (λ j. getD ds′ j 0) i) (inl (record { at = tail; from = omega arith; below = omega arith; here = last }))
+        (λ i m f.
+        ⊎-elim (λ w. inl (record { at = w .at; from = w .from; below = omega (arith, w .below); here = queued (w .at) (w .below) ∙ w .here }))
+        (λ c. inr (λ j n b. omega (arith, drops j, keeps i f, c j n b))) (s .shut i m f));
+    past = λ i m q. other i (λ z. omega arith) ∙ s .past i m q;
+  }
+
+  -- the clock that is expanded is as it was
+  pub head-kept : getD qs′ head 0 ≡ getD qs head 0
+  head-kept = queued head h
+
+  pub dist-kept : getD ds′ (getD qs head 0) 0 ≡ getD ds (getD qs head 0) 0
+  dist-kept = keeps (getD qs head 0) (s .known head h)
+
+  pub seen-put : Seen g ds (getD qs head 0) e → Seen g ds′ (getD qs head 0) (e + 1)
+  seen-put t = below-more _ e (λ j m b. omega (arith, drops j, dist-kept, t j m b)) (λ b. omega (arith, new, dist-kept))
+
+-- where the search begins
+module _ (g : Net) (cap : ℕ) (fits : g .size < g .far) (big : g .size ≤ cap) (goal-in : g .goal < g .size) where
+  abbrev ds₀ : List ℕ
+  ds₀ = set (replicate cap (g .far)) (g .goal) 0
+
+  abbrev qs₀ : List ℕ
+  qs₀ = set (replicate cap 0) 0 (g .goal)
+
+  at-goal : getD ds₀ (g .goal) 0 ≡ 0
+  at-goal = getD-set-same (replicate cap (g .far)) (g .goal) 0 0 (rw length-replicate (omega arith))
+
+  at-first : getD qs₀ 0 0 ≡ g .goal
+  at-first = getD-set-same (replicate cap 0) 0 (g .goal) 0 (rw length-replicate (omega arith))
+
+  elsewhere : (i : ℕ) → i < g .size → (i ≡ g .goal → ⊥) → getD ds₀ i 0 ≡ g .far
+  elsewhere i m n = getD-set-other (replicate cap (g .far)) (g .goal) i 0 0 n ∙ getD-replicate cap i (g .far) 0 (omega arith)
+
+  only : (i : ℕ) → i < g .size → getD ds₀ i 0 < g .far → i ≡ g .goal
+  only i m f = go (ℕ-discrete i (g .goal))
+    where
+      go : Dec (i ≡ g .goal) → i ≡ g .goal
+      go (yes q) = q
+      go (no n) = absurd (omega (arith, elsewhere i m n))
+
+  most : (i : ℕ) → i < g .size → getD ds₀ i 0 ≤ g .far
+  most i m = go (ℕ-discrete i (g .goal))
+    where
+      go : Dec (i ≡ g .goal) → getD ds₀ i 0 ≤ g .far
+      go (yes q) = rw (q, at-goal) zero-le
+      go (no n) = omega (arith, elsewhere i m n)
+
+  zero-at : (i : ℕ) → i < g .size → getD ds₀ i 0 < g .far → getD ds₀ i 0 ≡ 0
+  zero-at i m f = rw (only i m f) at-goal
+
+  first-at : (i : ℕ) → i < 1 → getD qs₀ i 0 ≡ g .goal
+  first-at i m = let z : i ≡ 0 = omega arith in rw z at-first
+
+  first-zero : (i : ℕ) → i < 1 → getD ds₀ (getD qs₀ i 0) 0 ≡ 0
+  first-zero i m = ap (λ (j : ℕ). getD ds₀ j 0) (first-at i m) ∙ at-goal
+
+  pub start : State g cap ds₀ qs₀ 0 1
+  start = record {
+    fits = fits;
+    goal-in = goal-in;
+    big = big;
+    room-d = simp (length-set, length-replicate);
+    room-q = simp (length-set, length-replicate);
+    order = zero-le;
+    count = omega (arith, unset-all (g .far) cap (g .size) big, unset-set (g .far) (replicate cap (g .far)) (g .size) (g .goal) 0 goal-in (rw length-replicate (omega arith)) (getD-replicate cap (g .goal) (g .far) 0 (omega arith)) (λ q. omega arith));
+    goal-zero = at-goal;
+    bound = most;
+    small = λ i m f. omega (arith, zero-at i m f);
+    sound = λ i m f. rw (zero-at i m f) (reach-here g i m (only i m f));
+    inside = λ i m. rw (first-at i m) goal-in;
+    known = λ i m. omega (arith, first-zero i m);
+    sorted = λ i j p m. omega (arith, first-zero i (omega arith), first-zero j m);
+    top = λ h i m f. omega (arith, zero-at i m f);
+    shut = λ i m f. inl (record { at = 0; from = zero-le; below = omega arith; here = at-first ∙ sym (only i m f) });
+    past = λ i m l. getD-set-other (replicate cap (g .far)) (g .goal) i 0 0 (λ q. omega arith) ∙ getD-replicate cap i (g .far) 0 l;
+  }
+
+-- a turn begins: the clocks below d have been looked at from the head of the queue
+pub record Turn (g : Net) (cap : ℕ) (ds qs : List ℕ) (head tail d : ℕ) : Type 0 where
+  pub state : State g cap ds qs head tail
+  pub seen : Seen g ds (getD qs head 0) d
+  pub upto : d ≤ g .size
+
+pub turn-start : (g : Net) (cap : ℕ) → g .size < g .far → g .size ≤ cap → g .goal < g .size → Turn g cap (set (replicate cap (g .far)) (g .goal) 0) (set (replicate cap 0) 0 (g .goal)) 0 1 0
+turn-start g cap f b h = record { state = start g cap f b h; seen = λ j m b. absurd (omega arith); upto = zero-le }
+
+module _ {g : Net} {cap : ℕ} {ds qs : List ℕ} {head tail d : ℕ} (s : Turn g cap ds qs head tail d) where
+  -- the queue has run out
+  pub turn-done : tail ≤ head → Cert g (λ i. getD ds i 0)
+  turn-done h = done (s .state) h
+
+  pub turn-tail : tail ≤ g .size
+  turn-tail = omega (arith, s .state .count)
+
+  module _ (h : head < tail) where
+    pub head-in : getD qs head 0 < g .size
+    head-in = s .state .inside head h
+
+    pub head-small : getD ds (getD qs head 0) 0 < tail
+    head-small = s .state .small (getD qs head 0) head-in (s .state .known head h)
+
+    -- all have been looked at
+    pub turn-next : d ≡ g .size → Turn g cap ds qs (head + 1) tail 0
+    turn-next e = record {
+      state = advance (s .state) h (λ j l b. s .seen j (omega arith) b);
+      seen = λ j m b. absurd (omega arith);
+      upto = zero-le;
+    }
+
+    module _ (not-all : d ≡ g .size → ⊥) where
+      l : d < g .size
+      l = omega (arith, s .upto)
+
+      -- d has a distance, or no pair leads from it to the head
+      pub turn-skip : (g .adj d (getD qs head 0) ≡ true → getD ds d 0 ≡ g .far → ⊥) → Turn g cap ds qs head tail (d + 1)
+      turn-skip n = record {
+        state = s .state;
+        seen = below-more _ d (s .seen) (λ b. near (ℕ-discrete (getD ds d 0) (g .far)) b);
+        upto = omega arith;
+      }
+        where
+          near : Dec (getD ds d 0 ≡ g .far) → g .adj d (getD qs head 0) ≡ true → getD ds d 0 ≤ getD ds (getD qs head 0) 0 + 1
+          near (yes q) b = absurd (n b q)
+          near (no q) b = s .state .top h d l (omega (arith, s .state .bound d l))
+
+      module _ (u : getD ds d 0 ≡ g .far) where
+        pub turn-room : tail < g .size
+        turn-room = room (s .state) h l u
+
+        pub turn-put : g .adj d (getD qs head 0) ≡ true → Turn g cap (set ds d (getD ds (getD qs head 0) 0 + 1)) (set qs tail d) head (tail + 1) (d + 1)
+        turn-put a = record {
+          state = put (s .state) h l u a;
+          seen = rw (head-kept (s .state) h l u) (seen-put (s .state) h l u (s .seen));
+          upto = omega arith;
+        }
+
+-- what is left to look at gets less when the next clock comes to the head
+pub left-next : (n head d : ℕ) → head < n → (n - (head + 1)) * suc n + (n - 0) < (n - head) * suc n + (n - d)
+left-next n head d h =
+    let e : n - head ≡ suc (n - (head + 1)) = omega arith in
+    rw e (omega (arith, suc-mul (n - (head + 1)) (suc n)))

@@ -1,0 +1,178 @@
+// The best paths to a target in a graph of clocks, which a matrix of bytes holds.
+ghost use mathlib.Core.Path.{_≡_};
+ghost use mathlib.Core.List.{_++_};
+ghost use Prim.Native.Nat.{ℕ, _*_, _≤_, _<_};
+ghost use lib.ListN.{length, getD, drop, replicate};
+ghost use Rattle.numbers.specs.Numbers.{clocks};
+ghost use Rattle.paths.specs.Paths.{next};
+ghost use Rattle.paths.specs.Matrix.{pairOf, isGraph, graphOf, distances, nexts, along, traced};
+
+// No path: more than any distance.
+const FAR: u16 = 65535;
+
+// The distance and the next clock of each clock.
+pub struct Found {
+    pub dist: [u16; numbers::CLOCKS],
+    pub next: [u16; numbers::CLOCKS],
+}
+
+// How the tracing of a path ends: with so many steps, without a path, or in memory that is too short for it.
+pub enum Route {
+    Steps(u16),
+    Nowhere,
+    Short,
+}
+
+// Whether the matrix has n rows of n bytes, for no more clocks than there are, and the target is one of them.
+// n is tested first, so that n * n does not wrap.
+fn is_graph(matrix: &[u8], n: usize, target: usize) -> bool
+    ensures { λ r. ⌜ r ≡ isGraph (now (matrix .entry)) n target ⌝ }
+{
+    if numbers::CLOCKS < n {
+        return false;
+    }
+    if matrix.len() != n * n {
+        return false;
+    }
+    target < n
+}
+
+// Whether a pair leads from c to d: the one place that knows where a cell stands.
+fn pair(matrix: &[u8], n: usize, c: usize, d: usize) -> bool
+    requires { ⌜ (length (now matrix) ≡ n * n) × (n ≤ clocks) × (c < n) × (d < n) ⌝ }
+    ensures { λ r. ⌜ r ≡ pairOf (now (matrix .entry)) n c d ⌝ }
+{
+    0 < matrix[c * n + d]
+}
+
+// The distance of each clock, breadth first from the target. The queue holds the clocks that have a distance, in the order in which
+// they got it; each turn looks whether a pair leads from one clock to the clock at the queue's head.
+fn distances(matrix: &[u8], n: usize, target: usize) -> [u16; numbers::CLOCKS]
+    ensures { λ r. ⌜ r ≡ distances (graphOf (now (matrix .entry)) n target) ⌝ }
+{
+    let mut dist = [FAR; numbers::CLOCKS];
+    if !is_graph(matrix, n, target) {
+        return dist;
+    }
+    let mut queue = [0u16; numbers::CLOCKS];
+    dist[target] = 0;
+    queue[0] = target as u16;
+    let mut head: usize = 0;
+    let mut tail: usize = 1;
+    let mut d: usize = 0;
+    while head < tail {
+        if d == n {
+            head += 1;
+            d = 0;
+        } else {
+            let c = queue[head] as usize;
+            let e = d;
+            d += 1;
+            if dist[e] == FAR {
+                if pair(matrix, n, e, c) {
+                    dist[e] = dist[c] + 1;
+                    queue[tail] = e as u16;
+                    tail += 1;
+                }
+            }
+        }
+    }
+    dist
+}
+
+// The clock after c on its best path: the smallest neighbour that is one pair nearer. The target and a clock without a path
+// name themselves.
+fn next_from(
+    matrix: &[u8],
+    n: usize,
+    target: usize,
+    dist: &[u16; numbers::CLOCKS],
+    c: usize,
+) -> usize
+    requires { ⌜ now dist ≡ distances (graphOf (now matrix) n target) ⌝ }
+    requires { ⌜ c < clocks ⌝ }
+    ensures { λ r. ⌜ r ≡ next (graphOf (now (matrix .entry)) n target) c ⌝ }
+{
+    let k = dist[c];
+    if c == target {
+        return c;
+    }
+    if k == FAR {
+        return c;
+    }
+    let mut d: usize = 0;
+    while d < n {
+        let e = d;
+        d += 1;
+        if dist[e] == k - 1 {
+            if pair(matrix, n, c, e) {
+                return e;
+            }
+        }
+    }
+    c
+}
+
+// The distance and the next clock of each clock. Where the matrix is no graph with that target, no clock has a path.
+pub fn search(matrix: &[u8], n: usize, target: usize) -> Found
+    ensures { λ r. ⌜ (r .dist ≡ distances (graphOf (now (matrix .entry)) n target)) × (r .next ≡ nexts (graphOf (now (matrix .entry)) n target)) ⌝ }
+{
+    let dist = distances(matrix, n, target);
+    let mut next = [0u16; numbers::CLOCKS];
+    let mut c: usize = 0;
+    while c < numbers::CLOCKS {
+        let d = next_from(matrix, n, target, &dist, c);
+        next[c] = d as u16;
+        c += 1;
+    }
+    Found { dist, next }
+}
+
+// Sets all of out to zeros.
+fn clear(out: &mut [u16])
+    ensures { λ _. ⌜ now (out .exit) ≡ replicate (length (now (out .entry))) 0 ⌝ }
+{
+    let mut i: usize = 0;
+    while i < out.len() {
+        out[i] = 0;
+        i += 1;
+    }
+}
+
+// Writes the clocks of k steps from c to the start of out, c left out.
+fn follow(next: &[u16; numbers::CLOCKS], c: usize, k: usize, out: &mut [u16])
+    requires { ⌜ ((i : ℕ) → i < clocks → getD (now next) i 0 < clocks) ⌝ }
+    requires { ⌜ (c < clocks) × (k ≤ length (now out)) ⌝ }
+    ensures { λ _. ⌜ now (out .exit) ≡ along (now (next .entry)) k c ++ drop k (now (out .entry)) ⌝ }
+{
+    let mut at = c;
+    let mut s: usize = 0;
+    while s < k {
+        at = next[at] as usize;
+        out[s] = at as u16;
+        s += 1;
+    }
+}
+
+// The best path from one clock to the target: its clocks, the first left out, are written to out, and out's rest is set to zeros.
+pub fn path(matrix: &[u8], n: usize, target: usize, from: usize, out: &mut [u16]) -> Route
+    ensures answer { λ r. ⌜ r ≡ traced (graphOf (now (matrix .entry)) n target) from (length (now (out .entry))) .answer ⌝ }
+    ensures written { λ _. ⌜ now (out .exit) ≡ traced (graphOf (now (matrix .entry)) n target) from (length (now (out .entry))) .out ⌝ }
+{
+    clear(out);
+    if numbers::CLOCKS <= from {
+        return Route::Nowhere;
+    }
+    let found = search(matrix, n, target);
+    let dist = found.dist;
+    let next = found.next;
+    let k = dist[from];
+    if k == FAR {
+        return Route::Nowhere;
+    }
+    if out.len() < k as usize {
+        return Route::Short;
+    }
+    follow(&next, from, k as usize, out);
+    Route::Steps(k)
+}
