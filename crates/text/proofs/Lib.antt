@@ -1,0 +1,4 @@
+-- Laws that the functions' proofs use.
+pub mod Table
+pub mod Coded
+pub mod Ends

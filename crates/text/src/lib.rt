@@ -1,0 +1,498 @@
+// The bytes of a JSON text: classes, strings, numbers, literals, whitespace.
+ghost use mathlib.Core.Path.{_≡_};
+ghost use Prim.Native.Nat.{_+_, _<_, _^_};
+ghost use mathlib.Core.Bool.{_||_};
+ghost use lib.Dec.{eqb};
+ghost use Rattle.text.specs.Reading.{pick, peek, run, word, scan};
+ghost use Rattle.text.specs.Class.{classOf, skip, whitespace, digit as digitOf};
+ghost use Rattle.text.specs.Strings.{hexOf, escapeOf, pairOf, quad as quadOf, low as lowOf, paired as pairedOf, escape as escapeAt, second as secondOf, two as twoOf, three as threeOf, four as fourOf, character as characterOf, codeOf, string as stringOf};
+ghost use Rattle.text.specs.Numbers.{digits as digitsOf, minus as minusOf, sign as signOf, int as intOf, frac as fracOf, exp as expOf, rest as restOf, number as numberOf};
+
+// Where a reading ends; or the first position after which no well-formed text is possible; or the byte that opens one level too many.
+pub enum Scan {
+    Done(usize),
+    Bad(usize),
+    Deep(usize),
+}
+
+// A code point with the position past it; or the first position after which no character is possible.
+pub enum Code {
+    Of(u32, usize),
+    No(usize),
+}
+
+// The class of each byte.
+const CLASS: [u8; 256] = *b"\x00\x00\x00\x00\x00\x00\x00\x00\x00\x01\x01\x00\x00\x01\x00\x00\
+    \x00\x00\x00\x00\x00\x00\x00\x00\x00\x00\x00\x00\x00\x00\x00\x00\
+    \x04\x11\x02\x11\x11\x11\x11\x11\x11\x11\x11\x08\x0f\x07\x09\x11\
+    \x05\x06\x06\x06\x06\x06\x06\x06\x06\x06\x0e\x11\x11\x11\x11\x11\
+    \x11\x10\x10\x10\x10\x10\x10\x10\x10\x10\x10\x10\x10\x10\x10\x10\
+    \x10\x10\x10\x10\x10\x10\x10\x10\x10\x10\x10\x0a\x03\x0b\x11\x11\
+    \x11\x10\x10\x10\x10\x10\x10\x10\x10\x10\x10\x10\x10\x10\x10\x10\
+    \x10\x10\x10\x10\x10\x10\x10\x10\x10\x10\x10\x0c\x11\x0d\x11\x11\
+    \x12\x12\x12\x12\x12\x12\x12\x12\x12\x12\x12\x12\x12\x12\x12\x12\
+    \x12\x12\x12\x12\x12\x12\x12\x12\x12\x12\x12\x12\x12\x12\x12\x12\
+    \x12\x12\x12\x12\x12\x12\x12\x12\x12\x12\x12\x12\x12\x12\x12\x12\
+    \x12\x12\x12\x12\x12\x12\x12\x12\x12\x12\x12\x12\x12\x12\x12\x12\
+    \x16\x16\x13\x13\x13\x13\x13\x13\x13\x13\x13\x13\x13\x13\x13\x13\
+    \x13\x13\x13\x13\x13\x13\x13\x13\x13\x13\x13\x13\x13\x13\x13\x13\
+    \x14\x14\x14\x14\x14\x14\x14\x14\x14\x14\x14\x14\x14\x14\x14\x14\
+    \x15\x15\x15\x15\x15\x16\x16\x16\x16\x16\x16\x16\x16\x16\x16\x16";
+
+// The value of each hexadecimal digit; 16 for a byte that is none.
+const HEX: [u8; 256] = *b"\x10\x10\x10\x10\x10\x10\x10\x10\x10\x10\x10\x10\x10\x10\x10\x10\
+    \x10\x10\x10\x10\x10\x10\x10\x10\x10\x10\x10\x10\x10\x10\x10\x10\
+    \x10\x10\x10\x10\x10\x10\x10\x10\x10\x10\x10\x10\x10\x10\x10\x10\
+    \x00\x01\x02\x03\x04\x05\x06\x07\x08\x09\x10\x10\x10\x10\x10\x10\
+    \x10\x0a\x0b\x0c\x0d\x0e\x0f\x10\x10\x10\x10\x10\x10\x10\x10\x10\
+    \x10\x10\x10\x10\x10\x10\x10\x10\x10\x10\x10\x10\x10\x10\x10\x10\
+    \x10\x0a\x0b\x0c\x0d\x0e\x0f\x10\x10\x10\x10\x10\x10\x10\x10\x10\
+    \x10\x10\x10\x10\x10\x10\x10\x10\x10\x10\x10\x10\x10\x10\x10\x10\
+    \x10\x10\x10\x10\x10\x10\x10\x10\x10\x10\x10\x10\x10\x10\x10\x10\
+    \x10\x10\x10\x10\x10\x10\x10\x10\x10\x10\x10\x10\x10\x10\x10\x10\
+    \x10\x10\x10\x10\x10\x10\x10\x10\x10\x10\x10\x10\x10\x10\x10\x10\
+    \x10\x10\x10\x10\x10\x10\x10\x10\x10\x10\x10\x10\x10\x10\x10\x10\
+    \x10\x10\x10\x10\x10\x10\x10\x10\x10\x10\x10\x10\x10\x10\x10\x10\
+    \x10\x10\x10\x10\x10\x10\x10\x10\x10\x10\x10\x10\x10\x10\x10\x10\
+    \x10\x10\x10\x10\x10\x10\x10\x10\x10\x10\x10\x10\x10\x10\x10\x10\
+    \x10\x10\x10\x10\x10\x10\x10\x10\x10\x10\x10\x10\x10\x10\x10\x10";
+
+// What a backslash and each byte stand for; 0 for a byte that ends no escape.
+const ESCAPE: [u8; 256] = *b"\x00\x00\x00\x00\x00\x00\x00\x00\x00\x00\x00\x00\x00\x00\x00\x00\
+    \x00\x00\x00\x00\x00\x00\x00\x00\x00\x00\x00\x00\x00\x00\x00\x00\
+    \x00\x00\x22\x00\x00\x00\x00\x00\x00\x00\x00\x00\x00\x00\x00\x2f\
+    \x00\x00\x00\x00\x00\x00\x00\x00\x00\x00\x00\x00\x00\x00\x00\x00\
+    \x00\x00\x00\x00\x00\x00\x00\x00\x00\x00\x00\x00\x00\x00\x00\x00\
+    \x00\x00\x00\x00\x00\x00\x00\x00\x00\x00\x00\x00\x5c\x00\x00\x00\
+    \x00\x00\x08\x00\x00\x00\x0c\x00\x00\x00\x00\x00\x00\x00\x0a\x00\
+    \x00\x00\x0d\x00\x09\x00\x00\x00\x00\x00\x00\x00\x00\x00\x00\x00\
+    \x00\x00\x00\x00\x00\x00\x00\x00\x00\x00\x00\x00\x00\x00\x00\x00\
+    \x00\x00\x00\x00\x00\x00\x00\x00\x00\x00\x00\x00\x00\x00\x00\x00\
+    \x00\x00\x00\x00\x00\x00\x00\x00\x00\x00\x00\x00\x00\x00\x00\x00\
+    \x00\x00\x00\x00\x00\x00\x00\x00\x00\x00\x00\x00\x00\x00\x00\x00\
+    \x00\x00\x00\x00\x00\x00\x00\x00\x00\x00\x00\x00\x00\x00\x00\x00\
+    \x00\x00\x00\x00\x00\x00\x00\x00\x00\x00\x00\x00\x00\x00\x00\x00\
+    \x00\x00\x00\x00\x00\x00\x00\x00\x00\x00\x00\x00\x00\x00\x00\x00\
+    \x00\x00\x00\x00\x00\x00\x00\x00\x00\x00\x00\x00\x00\x00\x00\x00";
+
+// A byte as an index.
+fn index(b: u8) -> usize
+    ensures { λ r. ⌜ r ≡ b ⌝ }
+{
+    b as usize
+}
+
+// A byte as a number that can also be 256.
+fn widen(b: u8) -> u32
+    ensures { λ r. ⌜ r ≡ b ⌝ }
+{
+    b as u32
+}
+
+// The class of a byte.
+pub fn class(b: u8) -> u8
+    ensures { λ r. ⌜ r ≡ classOf b ⌝ }
+{
+    CLASS[index(b)]
+}
+
+// The byte at a position, and 256 past the end: so that no caller has a case for the end.
+pub fn byte(s: &[u8], at: usize) -> u32
+    ensures { λ r. ⌜ r ≡ peek (now (s .entry)) at ⌝ }
+{
+    if at < s.len() { widen(s[at]) } else { 256 }
+}
+
+// Whether a byte is whitespace.
+fn white(b: u8) -> bool
+    ensures { λ r. ⌜ r ≡ whitespace b ⌝ }
+{
+    let k = class(b);
+    k == 4 || k == 1
+}
+
+// Past the whitespace at a position.
+pub fn blank(s: &[u8], at: usize) -> usize
+    ensures { λ r. ⌜ r ≡ skip (now (s .entry)) at ⌝ }
+{
+    let mut i = at;
+    while i < s.len() {
+        if !white(s[i]) {
+            return i;
+        }
+        i += 1;
+    }
+    i
+}
+
+// The value of the hexadecimal digit at a position; 16 for a byte that is none, and for the end.
+fn hex_at(s: &[u8], at: usize) -> u32
+    ensures { λ r. ⌜ r ≡ hexOf (peek (now (s .entry)) at) ⌝ }
+{
+    if at < s.len() {
+        widen(HEX[index(s[at])])
+    } else {
+        16
+    }
+}
+
+// What a backslash and the byte at a position stand for; 0 for a byte that ends no escape, and for the end.
+fn escape_of_at(s: &[u8], at: usize) -> u32
+    ensures { λ r. ⌜ r ≡ escapeOf (peek (now (s .entry)) at) ⌝ }
+{
+    if at < s.len() {
+        widen(ESCAPE[index(s[at])])
+    } else {
+        0
+    }
+}
+
+// Two hexadecimal digits, after the number v.
+fn pair(s: &[u8], at: usize, v: u32) -> Code
+    requires { ⌜ (at < 2 ^ 63 + 16) × (v < 256) ⌝ }
+    ensures { λ r. ⌜ r ≡ codeOf (pairOf v (now (s .entry)) at) ⌝ }
+{
+    let d0 = hex_at(s, at);
+    if 16 <= d0 {
+        return Code::No(at);
+    }
+    let d1 = hex_at(s, at + 1);
+    if 16 <= d1 {
+        return Code::No(at + 1);
+    }
+    Code::Of((v * 16 + d0) * 16 + d1, at + 2)
+}
+
+// The least number that no second digit is: after D it is 12, so that no low surrogate is taken.
+fn second_end(d0: u32) -> u32
+    ensures { λ r. ⌜ (r ≡ pick (eqb d0 13) 12 16) × (r < 17) ⌝ }
+{
+    if d0 == 13 { 12 } else { 16 }
+}
+
+// Four hexadecimal digits that are no low surrogate.
+fn quad(s: &[u8], at: usize) -> Code
+    requires { ⌜ at < 2 ^ 63 + 8 ⌝ }
+    ensures { λ r. ⌜ r ≡ codeOf (quadOf (now (s .entry)) at) ⌝ }
+{
+    let d0 = hex_at(s, at);
+    if 16 <= d0 {
+        return Code::No(at);
+    }
+    let d1 = hex_at(s, at + 1);
+    if second_end(d0) <= d1 {
+        return Code::No(at + 1);
+    }
+    pair(s, at + 2, d0 * 16 + d1)
+}
+
+// A backslash, a u and a low surrogate.
+fn low(s: &[u8], at: usize) -> Code
+    ensures { λ r. ⌜ r ≡ codeOf (lowOf (now (s .entry)) at) ⌝ }
+{
+    if byte(s, at) != 92 {
+        return Code::No(at);
+    }
+    if byte(s, at + 1) != 117 {
+        return Code::No(at + 1);
+    }
+    if hex_at(s, at + 2) != 13 {
+        return Code::No(at + 2);
+    }
+    let d = hex_at(s, at + 3);
+    if d / 4 != 3 {
+        return Code::No(at + 3);
+    }
+    pair(s, at + 4, 208 + d)
+}
+
+// After the digits of v, which end at a position: a high surrogate asks for a low one, and the two are one code point.
+fn paired(s: &[u8], v: u32, at: usize) -> Code
+    ensures { λ r. ⌜ r ≡ codeOf (pairedOf (now (s .entry)) v at) ⌝ }
+{
+    if v / 1024 != 54 {
+        return Code::Of(v, at);
+    }
+    match low(s, at) {
+        Code::Of(w, j) => Code::Of(65536 + v % 1024 * 1024 + w % 1024, j),
+        Code::No(p) => Code::No(p),
+    }
+}
+
+// A backslash at a position, and what follows it.
+fn escape(s: &[u8], at: usize) -> Code
+    requires { ⌜ at < 2 ^ 63 ⌝ }
+    ensures { λ r. ⌜ r ≡ codeOf (escapeAt (now (s .entry)) at) ⌝ }
+{
+    if byte(s, at + 1) == 117 {
+        return match quad(s, at + 2) {
+            Code::Of(v, j) => paired(s, v, j),
+            Code::No(p) => Code::No(p),
+        };
+    }
+    let v = escape_of_at(s, at + 1);
+    if v == 0 {
+        return Code::No(at + 1);
+    }
+    Code::Of(v, at + 2)
+}
+
+// The least second byte after the first byte b: no longer form of a code point than need be.
+fn least(b: u32) -> u32
+    ensures { λ r. ⌜ r ≡ pick (eqb b 224) 160 (pick (eqb b 240) 144 128) ⌝ }
+{
+    if b == 224 {
+        160
+    } else if b == 240 {
+        144
+    } else {
+        128
+    }
+}
+
+// The greatest second byte after the first byte b: no surrogate, and no code point past 10FFFF.
+fn greatest(b: u32) -> u32
+    ensures { λ r. ⌜ r ≡ pick (eqb b 237) 159 (pick (eqb b 244) 143 191) ⌝ }
+{
+    if b == 237 {
+        159
+    } else if b == 244 {
+        143
+    } else {
+        191
+    }
+}
+
+// Whether c may come second after the first byte b.
+fn second(b: u32, c: u32) -> bool
+    ensures { λ r. ⌜ r ≡ secondOf b c ⌝ }
+{
+    least(b) <= c && c <= greatest(b)
+}
+
+// A character of two bytes.
+fn two(s: &[u8], at: usize) -> Code
+    requires { ⌜ at < 2 ^ 63 ⌝ }
+    ensures { λ r. ⌜ r ≡ codeOf (twoOf (now (s .entry)) at) ⌝ }
+{
+    let b = byte(s, at);
+    let c = byte(s, at + 1);
+    if !second(b, c) {
+        return Code::No(at + 1);
+    }
+    Code::Of(b % 32 * 64 + c % 64, at + 2)
+}
+
+// A character of three bytes.
+fn three(s: &[u8], at: usize) -> Code
+    requires { ⌜ at < 2 ^ 63 ⌝ }
+    ensures { λ r. ⌜ r ≡ codeOf (threeOf (now (s .entry)) at) ⌝ }
+{
+    let b = byte(s, at);
+    let c = byte(s, at + 1);
+    if !second(b, c) {
+        return Code::No(at + 1);
+    }
+    let d = byte(s, at + 2);
+    if d / 64 != 2 {
+        return Code::No(at + 2);
+    }
+    Code::Of((b % 16 * 64 + c % 64) * 64 + d % 64, at + 3)
+}
+
+// A character of four bytes.
+fn four(s: &[u8], at: usize) -> Code
+    requires { ⌜ at < 2 ^ 63 ⌝ }
+    ensures { λ r. ⌜ r ≡ codeOf (fourOf (now (s .entry)) at) ⌝ }
+{
+    let b = byte(s, at);
+    let c = byte(s, at + 1);
+    if !second(b, c) {
+        return Code::No(at + 1);
+    }
+    let d = byte(s, at + 2);
+    if d / 64 != 2 {
+        return Code::No(at + 2);
+    }
+    let e = byte(s, at + 3);
+    if e / 64 != 2 {
+        return Code::No(at + 3);
+    }
+    Code::Of(((b % 8 * 64 + c % 64) * 64 + d % 64) * 64 + e % 64, at + 4)
+}
+
+// A character of a string: its code point.
+pub fn character(s: &[u8], at: usize) -> Code
+    ensures { λ r. ⌜ r ≡ codeOf (characterOf (now (s .entry)) at) ⌝ }
+{
+    if s.len() <= at {
+        return Code::No(at);
+    }
+    let k = class(s[at]);
+    match k {
+        3 => escape(s, at),
+        19 => two(s, at),
+        20 => three(s, at),
+        21 => four(s, at),
+        _ => {
+            if k < 4 {
+                Code::No(at)
+            } else if 17 < k {
+                Code::No(at)
+            } else {
+                Code::Of(byte(s, at), at + 1)
+            }
+        }
+    }
+}
+
+// A string, from its opening quote on. A byte of the classes 4 to 17 is a character by itself.
+pub fn string(s: &[u8], at: usize) -> Scan
+    ensures { λ r. ⌜ r ≡ scan (stringOf (now (s .entry)) at) ⌝ }
+{
+    if byte(s, at) != 34 {
+        return Scan::Bad(at);
+    }
+    let mut i = at + 1;
+    while i < s.len() {
+        match class(s[i]) {
+            4..=17 => i += 1,
+            2 => return Scan::Done(i + 1),
+            _ => match character(s, i) {
+                Code::Of(_, j) => i = j,
+                Code::No(p) => return Scan::Bad(p),
+            },
+        }
+    }
+    Scan::Bad(i)
+}
+
+// Whether a byte is a digit.
+fn digit(b: u8) -> bool
+    ensures { λ r. ⌜ r ≡ digitOf b ⌝ }
+{
+    let k = class(b);
+    k == 5 || k == 6
+}
+
+// Past the digits at a position.
+fn past_digits(s: &[u8], at: usize) -> usize
+    ensures { λ r. ⌜ r ≡ run digitOf (now (s .entry)) at ⌝ }
+{
+    let mut i = at;
+    while i < s.len() {
+        if !digit(s[i]) {
+            return i;
+        }
+        i += 1;
+    }
+    i
+}
+
+// One digit or more: the run of digits takes a byte.
+fn digits(s: &[u8], at: usize) -> Scan
+    ensures { λ r. ⌜ r ≡ scan (digitsOf (now (s .entry)) at) ⌝ }
+{
+    let end = past_digits(s, at);
+    if end == at {
+        Scan::Bad(at)
+    } else {
+        Scan::Done(end)
+    }
+}
+
+// Past the minus at a position, if there is one.
+fn minus(s: &[u8], at: usize) -> usize
+    ensures { λ r. ⌜ r ≡ minusOf (now (s .entry)) at ⌝ }
+{
+    if byte(s, at) == 45 { at + 1 } else { at }
+}
+
+// Whether a byte is one of two.
+fn either(b: u32, x: u32, y: u32) -> bool
+    ensures { λ r. ⌜ r ≡ (eqb b x || eqb b y) ⌝ }
+{
+    b == x || b == y
+}
+
+// Past the minus or plus at a position, if there is one.
+fn sign(s: &[u8], at: usize) -> usize
+    ensures { λ r. ⌜ r ≡ signOf (now (s .entry)) at ⌝ }
+{
+    if either(byte(s, at), 45, 43) {
+        at + 1
+    } else {
+        at
+    }
+}
+
+// A zero, or digits that start with none.
+fn int(s: &[u8], at: usize) -> Scan
+    ensures { λ r. ⌜ r ≡ scan (intOf (now (s .entry)) at) ⌝ }
+{
+    if byte(s, at) == 48 {
+        Scan::Done(at + 1)
+    } else {
+        digits(s, at)
+    }
+}
+
+// A point and digits, or nothing.
+fn frac(s: &[u8], at: usize) -> Scan
+    ensures { λ r. ⌜ r ≡ scan (fracOf (now (s .entry)) at) ⌝ }
+{
+    if byte(s, at) == 46 {
+        digits(s, at + 1)
+    } else {
+        Scan::Done(at)
+    }
+}
+
+// The letter e, a sign or none, and digits; or nothing.
+fn exp(s: &[u8], at: usize) -> Scan
+    ensures { λ r. ⌜ r ≡ scan (expOf (now (s .entry)) at) ⌝ }
+{
+    if either(byte(s, at), 101, 69) {
+        digits(s, sign(s, at + 1))
+    } else {
+        Scan::Done(at)
+    }
+}
+
+// What may follow the whole part of a number.
+fn rest(s: &[u8], at: usize) -> Scan
+    ensures { λ r. ⌜ r ≡ scan (restOf (now (s .entry)) tt at) ⌝ }
+{
+    match frac(s, at) {
+        Scan::Done(j) => exp(s, j),
+        Scan::Bad(p) => Scan::Bad(p),
+        Scan::Deep(p) => Scan::Deep(p),
+    }
+}
+
+// A number.
+pub fn number(s: &[u8], at: usize) -> Scan
+    ensures { λ r. ⌜ r ≡ scan (numberOf (now (s .entry)) at) ⌝ }
+{
+    match int(s, minus(s, at)) {
+        Scan::Done(j) => rest(s, j),
+        Scan::Bad(p) => Scan::Bad(p),
+        Scan::Deep(p) => Scan::Deep(p),
+    }
+}
+
+// The bytes of w, one after the other.
+pub fn literal(s: &[u8], at: usize, w: &[u8]) -> Scan
+    ensures { λ r. ⌜ r ≡ scan (word (now (w .entry)) (now (s .entry)) at) ⌝ }
+{
+    let mut i = at;
+    let mut k = 0;
+    while k < w.len() {
+        if byte(s, i) != widen(w[k]) {
+            return Scan::Bad(i);
+        }
+        i += 1;
+        k += 1;
+    }
+    Scan::Done(i)
+}

@@ -1,0 +1,5 @@
+-- Laws that only the proofs of this crate's functions use.
+pub mod Rest
+pub mod Compare
+pub mod Digits
+pub mod Ending

@@ -1,0 +1,5 @@
+-- Laws of the definitions, for the theorems, the proofs, and those who build on them.
+pub mod Outs
+pub mod Compared
+pub mod Shapes
+pub mod Standing

@@ -1,0 +1,321 @@
+// Questions about the value at a position of a JSON text: its kind, its text, its integer. Each is answered on every text, at every position.
+ghost use mathlib.Core.Path.{_≡_};
+ghost use Prim.Native.Nat.{_+_, _*_, _-_, _<_, _≤_, _^_, min};
+ghost use mathlib.Core.Bool.{true, _&&_, _||_};
+ghost use lib.Dec.{eqb};
+ghost use lib.ListN.{length};
+ghost use lib.IntN.{pos, negℤ};
+ghost use Rattle.text.specs.Reading.{pick, peek, part};
+ghost use Rattle.text.specs.Class.{digit};
+ghost use Rattle.text.specs.Strings.{utf8};
+ghost use Rattle.values.specs.Stands.{kindBy, kindAt};
+ghost use Rattle.values.specs.Strings.{lengthAt, sameAs, sameTexts};
+ghost use Rattle.values.specs.Integer.{whole, broken as brokenOf, decimal, ranged, integer, integerAt};
+ghost use Rattle.values.specs.laws.Compared.{startsFrom};
+
+// What kind of value begins at a position.
+pub enum Kind {
+    Nothing,
+    Null,
+    Truth,
+    Number,
+    String,
+    Array,
+    Object,
+}
+
+// An integer as far as 64 bits hold it; None where no integer stands.
+pub enum Integer {
+    In(i64),
+    Below,
+    Above,
+    None,
+}
+
+// A byte is one of two.
+fn either(b: u8, x: u8, y: u8) -> bool
+    ensures { λ r. ⌜ r ≡ (eqb b x || eqb b y) ⌝ }
+{
+    b == x || b == y
+}
+
+// A number begins with a byte: a minus or a digit.
+fn begins_number(b: u8) -> bool
+    ensures { λ r. ⌜ r ≡ (eqb b 45 || digit b) ⌝ }
+{
+    if b == 45 {
+        return true;
+    }
+    either(text::class(b), 5, 6)
+}
+
+// The kind of value that a byte begins.
+fn kind_by(b: u8) -> Kind
+    ensures { λ r. ⌜ r ≡ kindBy b ⌝ }
+{
+    if b == 123 {
+        return Kind::Object;
+    }
+    if b == 91 {
+        return Kind::Array;
+    }
+    if b == 34 {
+        return Kind::String;
+    }
+    if begins_number(b) {
+        return Kind::Number;
+    }
+    if either(b, 116, 102) {
+        return Kind::Truth;
+    }
+    if b == 110 { Kind::Null } else { Kind::Nothing }
+}
+
+// The kind of the value that begins at a position: its first byte tells it.
+pub fn kind_at(s: &[u8], at: usize) -> Kind
+    ensures { λ r. ⌜ r ≡ kindAt (now (s .entry)) at ⌝ }
+{
+    if at < s.len() {
+        kind_by(s[at])
+    } else {
+        Kind::Nothing
+    }
+}
+
+// How many bytes a code point has in UTF-8.
+fn width(v: u32) -> usize
+    ensures { λ r. ⌜ (r ≡ length (utf8 v)) × (r ≤ 4) ⌝ }
+{
+    if v < 128 {
+        return 1;
+    }
+    if v < 2048 {
+        return 2;
+    }
+    if v < 65536 { 3 } else { 4 }
+}
+
+// The length of the string at a position, unescaped; 0 where no string stands.
+pub fn length_at(s: &[u8], at: usize) -> usize
+    ensures { λ r. ⌜ r ≡ lengthAt (now (s .entry)) at ⌝ }
+{
+    if text::byte(s, at) != 34 {
+        return 0;
+    }
+    let mut i = at + 1;
+    let mut n: usize = 0;
+    loop {
+        if text::byte(s, i) == 34 {
+            return n;
+        }
+        match text::character(s, i) {
+            text::Code::Of(v, j) => {
+                n += width(v);
+                i = j;
+            }
+            text::Code::No(_) => return 0,
+        }
+    }
+}
+
+// So far the same, and x stands at k.
+fn more(t: &[u8], k: usize, ok: bool, x: u32) -> bool
+    ensures { λ r. ⌜ r ≡ (ok && eqb x (peek (now (t .entry)) k)) ⌝ }
+{
+    if ok { x == text::byte(t, k) } else { false }
+}
+
+// The bytes of a code point stand in a text at a position.
+fn starts(t: &[u8], k: usize, v: u32) -> bool
+    requires { ⌜ k < 2 ^ 63 ⌝ }
+    ensures { λ r. ⌜ r ≡ startsFrom true (utf8 v) (now (t .entry)) k ⌝ }
+{
+    if v < 128 {
+        return more(t, k, true, v);
+    }
+    let k1 = k + 1;
+    if v < 2048 {
+        return more(t, k1, more(t, k, true, 192 + v / 64), 128 + v % 64);
+    }
+    let k2 = k1 + 1;
+    if v < 65536 {
+        let two = more(t, k1, more(t, k, true, 224 + v / 4096), 128 + v / 64 % 64);
+        return more(t, k2, two, 128 + v % 64);
+    }
+    let two = more(
+        t,
+        k1,
+        more(t, k, true, 240 + v / 262144),
+        128 + v / 4096 % 64,
+    );
+    let three = more(t, k2, two, 128 + v / 64 % 64);
+    let k3 = k2 + 1;
+    more(t, k3, three, 128 + v % 64)
+}
+
+// The string at a position, unescaped, is a text; false where no string stands. No copy is made: each character is compared where it stands.
+pub fn same_as(s: &[u8], at: usize, t: &[u8]) -> bool
+    ensures { λ r. ⌜ r ≡ sameAs (now (s .entry)) at (now (t .entry)) ⌝ }
+{
+    if text::byte(s, at) != 34 {
+        return false;
+    }
+    let mut i = at + 1;
+    let mut k: usize = 0;
+    loop {
+        if text::byte(s, i) == 34 {
+            return k == t.len();
+        }
+        match text::character(s, i) {
+            text::Code::Of(v, j) => {
+                if !starts(t, k, v) {
+                    return false;
+                }
+                k += width(v);
+                if t.len() < k {
+                    return false;
+                }
+                i = j;
+            }
+            text::Code::No(_) => return false,
+        }
+    }
+}
+
+// The strings at two positions, unescaped, are one text; false where either is none. Equal texts have equal characters.
+pub fn same_texts(s: &[u8], p: usize, q: usize) -> bool
+    ensures { λ r. ⌜ r ≡ sameTexts (now (s .entry)) p q ⌝ }
+{
+    if text::byte(s, p) != 34 {
+        return false;
+    }
+    if text::byte(s, q) != 34 {
+        return false;
+    }
+    let mut i = p + 1;
+    let mut k = q + 1;
+    loop {
+        if text::byte(s, i) == 34 {
+            return text::byte(s, k) == 34;
+        }
+        if text::byte(s, k) == 34 {
+            return false;
+        }
+        match text::character(s, i) {
+            text::Code::Of(v, j) => match text::character(s, k) {
+                text::Code::Of(w, l) => {
+                    if v != w {
+                        return false;
+                    }
+                    i = j;
+                    k = l;
+                }
+                text::Code::No(_) => return false,
+            },
+            text::Code::No(_) => return false,
+        }
+    }
+}
+
+// A point or an e: what stands in a number with a fraction or an exponent.
+fn marks(b: u8) -> bool
+    ensures { λ r. ⌜ r ≡ (eqb b 46 || (eqb b 101 || eqb b 69)) ⌝ }
+{
+    if b == 46 {
+        return true;
+    }
+    either(b, 101, 69)
+}
+
+// A point or an e stands from a position up to an end.
+fn broken(s: &[u8], from: usize, end: usize) -> bool
+    requires { ⌜ end ≤ length (now s) ⌝ }
+    ensures { λ r. ⌜ r ≡ brokenOf (part (now (s .entry)) from end) ⌝ }
+{
+    let mut i = from;
+    while i < end {
+        if marks(s[i]) {
+            return true;
+        }
+        i += 1;
+    }
+    false
+}
+
+// What a digit is worth.
+fn worth(b: u8) -> u64
+    ensures { λ r. ⌜ (r ≡ b - 48) × (r < 256) ⌝ }
+{
+    if b < 48 { 0 } else { (b - 48) as u64 }
+}
+
+// One digit more, with every number past 64 bits told as the greatest of them.
+fn grown(v: u64, d: u64) -> u64
+    requires { ⌜ d < 256 ⌝ }
+    ensures { λ r. ⌜ r ≡ min (v * 10 + d) 18446744073709551615 ⌝ }
+{
+    if v <= (18446744073709551615 - d) / 10 {
+        v * 10 + d
+    } else {
+        18446744073709551615
+    }
+}
+
+// The number that the digits from a position up to an end write, or the greatest of 64 bits for any past it.
+fn natural(s: &[u8], from: usize, end: usize) -> u64
+    requires { ⌜ end ≤ length (now s) ⌝ }
+    ensures { λ r. ⌜ r ≡ min (decimal 0 (part (now (s .entry)) from end)) 18446744073709551615 ⌝ }
+{
+    let mut v: u64 = 0;
+    let mut i = from;
+    while i < end {
+        v = grown(v, worth(s[i]));
+        i += 1;
+    }
+    v
+}
+
+// A sign and a number as an integer of 64 bits, or below, or above. There is no -0, and !(n - 1) is -n.
+fn within(negative: bool, n: u64) -> Integer
+    ensures { λ r. ⌜ r ≡ ranged (whole (pick negative (negℤ (pos n)) (pos n))) ⌝ }
+{
+    if negative {
+        if n == 0 {
+            return Integer::In(0);
+        }
+        if n <= 0x8000_0000_0000_0000 {
+            Integer::In(!((n - 1) as i64))
+        } else {
+            Integer::Below
+        }
+    } else if n < 0x8000_0000_0000_0000 {
+        Integer::In(n as i64)
+    } else {
+        Integer::Above
+    }
+}
+
+// The integer that the characters from a position up to an end write.
+fn written(s: &[u8], at: usize, end: usize) -> Integer
+    requires { ⌜ end ≤ length (now s) ⌝ }
+    ensures { λ r. ⌜ r ≡ ranged (integer (part (now (s .entry)) at end)) ⌝ }
+{
+    if broken(s, at, end) {
+        return Integer::None;
+    }
+    if text::byte(s, at) == 45 {
+        return within(true, natural(s, at + 1, end));
+    }
+    within(false, natural(s, at, end))
+}
+
+// The integer at a position: no fraction, no exponent, digits of any length.
+pub fn integer_at(s: &[u8], at: usize) -> Integer
+    ensures { λ r. ⌜ r ≡ integerAt (now (s .entry)) at ⌝ }
+{
+    match text::number(s, at) {
+        text::Scan::Done(end) => written(s, at, end),
+        text::Scan::Bad(_) => Integer::None,
+        text::Scan::Deep(_) => Integer::None,
+    }
+}
