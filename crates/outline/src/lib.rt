@@ -1,0 +1,118 @@
+// The outline of a manifest's bytes: its start bytes (2), its outermost object (5), its version (6, 7), and the number of a clock's name.
+// Each question is answered on every text, at every position.
+ghost use mathlib.Core.Path.{_≡_};
+ghost use Rattle.places.specs.Places.{nextMember};
+ghost use Rattle.manifest.specs.Manifest.{starts};
+ghost use Rattle.outline.specs.Outline.{alone as aloneOf, rootAt, versionsAt, domainAt};
+ghost use Rattle.outline.specs.laws.Versions.{misnumbered};
+ghost use Rattle.outline.specs.laws.Names.{names as allNames};
+
+// Where the manifest object stands; or the document is refused as 5.
+pub enum Standing {
+    At(usize),
+    Refused,
+}
+
+// Where each clock's name starts among all of them, one after the other, and where the last one ends.
+const STARTS: [usize; 7] = [0, 8, 23, 32, 48, 61, 69];
+
+// The manifest starts with its 20 bytes, after whitespace. (If not: 2)
+pub fn opens(s: &[u8]) -> bool
+    ensures { λ r. ⌜ r ≡ starts (now (s .entry)) ⌝ }
+{
+    match text::literal(s, text::blank(s, 0), b"{\"perfetto_manifest\"") {
+        text::Scan::Done(_) => true,
+        text::Scan::Bad(_) => false,
+        text::Scan::Deep(_) => false,
+    }
+}
+
+// The value at v, which ends at a position, if no member comes after it and it is an object. The first byte tells an object.
+fn alone(s: &[u8], v: usize, past: usize) -> Standing
+    ensures { λ r. ⌜ r ≡ aloneOf (now (s .entry)) v (nextMember (now (s .entry)) past) ⌝ }
+{
+    match places::next_member(s, past) {
+        places::Entry::Named(_, _, _) => Standing::Refused,
+        places::Entry::Last => {
+            if text::byte(s, v) == 123 {
+                Standing::At(v)
+            } else {
+                Standing::Refused
+            }
+        }
+    }
+}
+
+// The manifest object: the one member of the outermost object. Its name need not be compared, since the start bytes fix it.
+pub fn root(s: &[u8]) -> Standing
+    ensures { λ r. ⌜ r ≡ rootAt (now (s .entry)) ⌝ }
+{
+    match places::first_member(s, text::blank(s, 0)) {
+        places::Entry::Named(_, v, past) => alone(s, v, past),
+        places::Entry::Last => Standing::Refused,
+    }
+}
+
+// The member whose name starts at a position and whose value starts at v is a version that isn't the integer 1.
+fn wrong_version(s: &[u8], at: usize, v: usize) -> bool
+    ensures { λ r. ⌜ r ≡ misnumbered (now (s .entry)) at v ⌝ }
+{
+    if !values::same_as(s, at, b"version") {
+        return false;
+    }
+    match values::integer_at(s, v) {
+        values::Integer::In(n) => n != 1,
+        values::Integer::Below => true,
+        values::Integer::Above => true,
+        values::Integer::None => true,
+    }
+}
+
+// 6 if the object at a position has no version, 7 if one of its versions isn't the integer 1, else 0: all of them are looked at.
+pub fn versions(s: &[u8], at: usize) -> u8
+    ensures { λ r. ⌜ r ≡ versionsAt (now (s .entry)) at ⌝ }
+{
+    let found = places::member_at(s, at, b"version");
+    if found.count == 0 {
+        return 6;
+    }
+    let mut member = places::first_member(s, at);
+    loop {
+        match member {
+            places::Entry::Named(name, v, past) => {
+                if wrong_version(s, name, v) {
+                    return 7;
+                }
+                member = places::next_member(s, past);
+            }
+            places::Entry::Last => return 0,
+        }
+    }
+}
+
+// The number of the clock whose name is the string at a position, given all names one after the other: each is lent where it stands among them.
+fn numbered(s: &[u8], at: usize, names: &[u8]) -> u8
+    requires { ⌜ now names ≡ allNames ⌝ }
+    ensures { λ r. ⌜ r ≡ domainAt (now (s .entry)) at ⌝ }
+{
+    let mut k: usize = 0;
+    let mut number: u8 = 1;
+    while k < 6 {
+        let from = STARTS[k];
+        let end = STARTS[k + 1];
+        if values::same_as(s, at, &names[from..end]) {
+            return number;
+        }
+        k += 1;
+        number += 1;
+    }
+    0
+}
+
+// The number, 1 to 6, of the clock whose name is the string at a position; 0 where that is no clock's name.
+pub fn domain(s: &[u8], at: usize) -> u8
+    ensures { λ r. ⌜ r ≡ domainAt (now (s .entry)) at ⌝ }
+{
+    let names = b"REALTIMEREALTIME_COARSEMONOTONICMONOTONIC_COARSEMONOTONIC_RAWBOOTTIME";
+    numbered(s, at, names)
+}

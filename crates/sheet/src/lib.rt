@@ -1,0 +1,309 @@
+// A sheet: the refusals 25 to 31, or a table of where its records lie.
+ghost use mathlib.Core.Path.{_≡_};
+ghost use Prim.Native.Nat.{_+_, _*_, _<_, _≤_};
+ghost use lib.ListN.{length};
+ghost use Rattle.records.specs.Layout.{bytesAt, pathHere, sourceHere, fileHere, sizeOf};
+ghost use Rattle.records.specs.Readers.{pathAt};
+ghost use Rattle.sheet.specs.Twice.{sameBytes, sameSource, among, repeats};
+ghost use Rattle.sheet.specs.Places.{pathsFrom, sourcesFrom, filePlaces};
+ghost use Rattle.sheet.specs.Sheets.{readOf};
+ghost use Rattle.sheet.specs.laws.Ended.{Held, endedOf, tableAt};
+use bits::Cursor;
+use records::State;
+use records::Step;
+
+// The longest sheet, in bytes. It stands here alone: nothing below rests on it.
+const LONGEST: usize = 65536;
+
+// Records of one kind that have one size: how many there are, and the bit position of the first.
+pub struct Run {
+    pub count: usize,
+    pub at: usize,
+}
+
+// An accepted sheet. Kinds never go down and files start at bit 0, so these seven numbers are the whole table: source i lies 40 * i bits
+// after the first, snapshot i 142 * i, event i 75 * i, and each is read where it is asked for. There is nothing to fill, to copy
+// or to lend, and nothing to promise of memory past the last record.
+pub struct Table {
+    pub files: usize,
+    pub sources: Run,
+    pub snapshots: Run,
+    pub events: Run,
+}
+
+// What reading a sheet gives.
+pub enum Sheet {
+    Refused(u8),
+    Listed(Table),
+}
+
+// Where reading ended: the fault, or 0 at the end record, and the state before that record.
+struct Ended {
+    fault: u8,
+    state: State,
+}
+
+// A number of 8 bits where one of 64 is asked for.
+fn wide(x: u8) -> usize
+    ensures { λ r. ⌜ r ≡ x ⌝ }
+{
+    x as usize
+}
+
+// A byte as a field is.
+fn byte(x: u8) -> u64
+    ensures { λ r. ⌜ r ≡ x ⌝ }
+{
+    x as u64
+}
+
+// All records: where reading ended.
+fn scan(s: &[u8]) -> Ended
+    requires { ⌜ length (now s) ≤ 0xffffffff ⌝ }
+    ensures { λ r. ⌜ r ≡ endedOf (now (s .entry)) ⌝ }
+{
+    let mut st = State {
+        at: 0,
+        last: 0,
+        files: 0,
+        containers: 0,
+        sources: 0,
+        snapshots: 0,
+        events: 0,
+    };
+    loop {
+        match records::step_over(s, st) {
+            Step::Next(n) => {
+                st = n;
+            }
+            Step::End => {
+                return Ended {
+                    fault: 0,
+                    state: st,
+                };
+            }
+            Step::Bad(k) => {
+                return Ended {
+                    fault: k,
+                    state: st,
+                };
+            }
+        }
+    }
+}
+
+// Whether the n bytes at bit a are those at bit b: until the first that differs.
+fn same_bytes(s: &[u8], a: usize, b: usize, n: usize) -> bool
+    requires { ⌜ (a + 8 * n ≤ 0x2000000000) × (b + 8 * n ≤ 0x2000000000) ⌝ }
+    ensures { λ r. ⌜ r ≡ sameBytes (bytesAt (now (s .entry)) a n) (bytesAt (now (s .entry)) b n) ⌝ }
+{
+    let mut p = a;
+    let mut q = b;
+    let mut left = n;
+    while 0 < left {
+        let x = Cursor { at: p }.take(s, 8);
+        let y = Cursor { at: q }.take(s, 8);
+        let u = x.value;
+        let v = y.value;
+        if u != v {
+            return false;
+        }
+        p += 8;
+        q += 8;
+        left -= 1;
+    }
+    true
+}
+
+// Whether the files at a and b have one path: their lengths settle most pairs.
+fn paths_match(s: &[u8], a: usize, b: usize) -> bool
+    requires { ⌜ (a < 0x1000000000) × (b < 0x1000000000) ⌝ }
+    ensures { λ r. ⌜ r ≡ sameBytes (pathHere (now (s .entry)) a) (pathHere (now (s .entry)) b) ⌝ }
+{
+    let g = records::head_at(s, a);
+    let h = records::head_at(s, b);
+    let n = g.length;
+    let m = h.length;
+    if n != m {
+        return false;
+    }
+    same_bytes(s, a + 15, b + 15, wide(n))
+}
+
+// Whether the path of the file at a bit position is t.
+pub fn same_path(s: &[u8], at: usize, t: &[u8]) -> bool
+    ensures { λ r. ⌜ r ≡ sameBytes (pathAt (now (s .entry)) at) (now (t .entry)) ⌝ }
+{
+    let h = records::head_at(s, at);
+    let n = wide(h.length);
+    if n != t.len() {
+        return false;
+    }
+    let mut i: usize = 0;
+    while i < n {
+        let x = Cursor {
+            at: at + 15 + 8 * i,
+        }.take(s, 8);
+        let u = x.value;
+        if u != byte(t[i]) {
+            return false;
+        }
+        i += 1;
+    }
+    true
+}
+
+// The bit position past the file at a.
+fn past_file(s: &[u8], a: usize) -> usize
+    requires { ⌜ a < 0x1000000000 ⌝ }
+    ensures { λ r. ⌜ (r ≡ a + sizeOf (fileHere (now (s .entry)) a)) × (r ≤ a + 2055) ⌝ }
+{
+    let h = records::head_at(s, a);
+    a + (15 + 8 * wide(h.length))
+}
+
+// The bit position of each of the first n files, and 0 past them, so that each is reached in one step.
+pub fn file_places(s: &[u8], n: usize) -> [u32; 32]
+    ensures { λ r. ⌜ r ≡ filePlaces (now (s .entry)) n ⌝ }
+{
+    let mut places = [0u32; 32];
+    let mut i: usize = 0;
+    let mut p: usize = 0;
+    while i < 32 {
+        if i < n {
+            places[i] = p as u32;
+        }
+        p = past_file(s, p);
+        i += 1;
+    }
+    places
+}
+
+// Whether one of the n files from bit position `from` on has the path of the file at a.
+fn path_again(s: &[u8], a: usize, from: usize, n: usize) -> bool
+    requires { ⌜ (a < 0x1000000000) × (n ≤ 32) × (from + 2055 * n < 0x1000000000) ⌝ }
+    ensures { λ r. ⌜ r ≡ among sameBytes (pathHere (now (s .entry)) a) (pathsFrom (now (s .entry)) from n) ⌝ }
+{
+    let mut p = from;
+    let mut left = n;
+    while 0 < left {
+        if paths_match(s, a, p) {
+            return true;
+        }
+        p = past_file(s, p);
+        left -= 1;
+    }
+    false
+}
+
+// 31 of paths: whether two of the first n files have one path.
+fn paths_twice(s: &[u8], n: usize) -> bool
+    requires { ⌜ n ≤ 32 ⌝ }
+    ensures { λ r. ⌜ r ≡ repeats sameBytes (pathsFrom (now (s .entry)) 0 n) ⌝ }
+{
+    let mut p: usize = 0;
+    let mut left = n;
+    while 0 < left {
+        let q = past_file(s, p);
+        left -= 1;
+        if path_again(s, p, q, left) {
+            return true;
+        }
+        p = q;
+    }
+    false
+}
+
+// Whether one of the n sources from bit position `from` on has the file and the id of the source at a.
+fn source_again(s: &[u8], a: usize, from: usize, n: usize) -> bool
+    requires { ⌜ (a < 0x1000000000) × (n ≤ 32) × (from + 40 * n < 0x1000000000) ⌝ }
+    ensures { λ r. ⌜ r ≡ among sameSource (sourceHere (now (s .entry)) a) (sourcesFrom (now (s .entry)) from n) ⌝ }
+{
+    let x = records::source_at(s, a);
+    let f = x.file.0;
+    let i = x.id;
+    let mut p = from;
+    let mut left = n;
+    while 0 < left {
+        let y = records::source_at(s, p);
+        let g = y.file.0;
+        let j = y.id;
+        p += 40;
+        left -= 1;
+        if f == g {
+            if i == j {
+                return true;
+            }
+        }
+    }
+    false
+}
+
+// 31 of sources: whether two of the n sources from bit position `from` on have one file and id.
+fn sources_twice(s: &[u8], from: usize, n: usize) -> bool
+    requires { ⌜ (n ≤ 32) × (from + 40 * n < 0x1000000000) ⌝ }
+    ensures { λ r. ⌜ r ≡ repeats sameSource (sourcesFrom (now (s .entry)) from n) ⌝ }
+{
+    let mut p = from;
+    let mut left = n;
+    while 0 < left {
+        let a = p;
+        p += 40;
+        left -= 1;
+        if source_again(s, a, p, left) {
+            return true;
+        }
+    }
+    false
+}
+
+// The table of a sheet that ended in this state: the first of each kind lies before all that came from it on.
+fn table_at(st: State) -> Table
+    requires { ⌜ Held st ⌝ }
+    ensures { λ r. ⌜ r ≡ tableAt st ⌝ }
+{
+    let e = st.at - 75 * st.events;
+    let n = e - 142 * st.snapshots;
+    let o = n - 40 * st.sources;
+    Table {
+        files: st.files,
+        sources: Run {
+            count: st.sources,
+            at: o,
+        },
+        snapshots: Run {
+            count: st.snapshots,
+            at: n,
+        },
+        events: Run {
+            count: st.events,
+            at: e,
+        },
+    }
+}
+
+// The refusal, 25 to 31, or the counts and places of the records.
+pub fn read(s: &[u8]) -> Sheet
+    ensures { λ r. ⌜ r ≡ readOf (now (s .entry)) ⌝ }
+{
+    if s.len() == 0 {
+        return Sheet::Refused(25);
+    }
+    if LONGEST < s.len() {
+        return Sheet::Refused(25);
+    }
+    let e = scan(s);
+    let k = e.fault;
+    if k != 0 {
+        return Sheet::Refused(k);
+    }
+    let st = e.state;
+    let t = table_at(st);
+    if paths_twice(s, t.files) {
+        return Sheet::Refused(31);
+    }
+    if sources_twice(s, t.sources.at, t.sources.count) {
+        return Sheet::Refused(31);
+    }
+    Sheet::Listed(t)
+}
