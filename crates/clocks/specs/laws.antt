@@ -1,0 +1,6 @@
+-- What the theorems and the proofs cite.
+pub mod Order
+pub mod Chosen
+pub mod Walk
+pub mod Rows
+pub mod Chains

@@ -1,0 +1,6 @@
+-- What the theorems, the proofs and other crates cite.
+pub mod Links
+pub mod Same
+pub mod Matrix
+pub mod Clear
+pub mod Shape
