@@ -12,6 +12,9 @@ use Rattle.paths.specs.Paths.{Leads}
 use Rattle.graphs.specs.Graphs.{World, graph}
 use Rattle.clocks.specs.declared.Answer.the-variants.{Placed, Dropped}
 use Rattle.clocks.specs.Answers.{unrelated, outside, early, ended, answerOf}
+use Rattle.whole.specs.Pairs.{Pair, converted}
+use Rattle.clocks.specs.laws.Firsts as firsts
+use Rattle.clocks.specs.laws.Firsts.{Firsts}
 use Rattle.clocks.specs.laws.Chains as chains
 use Rattle.clocks.specs.laws.Chains.{Exact, Chosen}
 
@@ -40,3 +43,8 @@ module _ (w : World) (c : ℕ) (t : ℤ) where
 -- On trace time itself: graph 1 and 0 steps, and dropped if negative.
 pub on-trace : (w : World) (t : ℤ) → w .trace < clocks → answerOf w (w .trace) t ≡ ended 1 0 (In t)
 on-trace = chains.at-trace
+
+-- A conversion does not depend on how the list was ordered, only on what it lists first of each x: two lists that agree in these, as a
+-- rearrangement that keeps the order of equals does, convert every reading alike.
+pub order-free : (t : ℤ) (ps qs : List Pair) → Firsts ps qs → Firsts qs ps → converted t ps ≡ converted t qs
+order-free = firsts.firsts-convert

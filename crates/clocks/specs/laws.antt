@@ -4,3 +4,4 @@ pub mod Chosen
 pub mod Walk
 pub mod Rows
 pub mod Chains
+pub mod Firsts

@@ -1,4 +1,4 @@
-// Asks the examples of the paper and some small graphs, one event each, and writes each answer as `kind time steps`: kinds 1 to 3 are
+// Asks the examples of document 01 and some small graphs, one event each, and writes each answer as `kind time steps`: kinds 1 to 3 are
 // the graphs, 4 to 6 the drops.
 use libc::STDOUT_FILENO;
 

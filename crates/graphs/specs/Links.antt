@@ -16,10 +16,10 @@ pub record Link : Type 0 where
 -- the correspondences of four lists, as far as all four go: where clock a_k reads x_k, clock b_k reads y_k
 unfoldable pub linksOf : List ℕ → List ℤ → List ℕ → List ℤ → List Link
 linksOf [] xs bs ys = []
-linksOf (a ∷ js) [] bs ys = []
-linksOf (a ∷ js) (x ∷ xs) [] ys = []
-linksOf (a ∷ js) (x ∷ xs) (b ∷ bs) [] = []
-linksOf (a ∷ js) (x ∷ xs) (b ∷ bs) (y ∷ ys) = record { a = a; x = x; b = b; y = y } ∷ linksOf js xs bs ys
+linksOf (a ∷ fs) [] bs ys = []
+linksOf (a ∷ fs) (x ∷ xs) [] ys = []
+linksOf (a ∷ fs) (x ∷ xs) (b ∷ bs) [] = []
+linksOf (a ∷ fs) (x ∷ xs) (b ∷ bs) (y ∷ ys) = record { a = a; x = x; b = b; y = y } ∷ linksOf fs xs bs ys
 
 -- "Manifest entries give the correspondence (0, offset), in entry order; then come snapshots in sheet order. A pair of clocks keeps one list":
 -- the correspondences of clocks c and d in their order, each seen from c. This alone picks a pair's list

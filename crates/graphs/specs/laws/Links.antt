@@ -16,41 +16,41 @@ use Rattle.graphs.specs.Links.{Link, linksOf, listOf}
 
 -- ---- the correspondences of four lists
 abbrev pub linkAt : List ℕ → List ℤ → List ℕ → List ℤ → ℕ → Link
-linkAt js xs bs ys k = record { a = getD js k 0; x = nth xs k; b = getD bs k 0; y = nth ys k }
+linkAt fs xs bs ys k = record { a = getD fs k 0; x = nth xs k; b = getD bs k 0; y = nth ys k }
 
 -- they go as far as all four lists
-pub links-most : (js : List ℕ) (xs : List ℤ) (bs : List ℕ) (ys : List ℤ)
-    → (length (linksOf js xs bs ys) ≤ length js) × (length (linksOf js xs bs ys) ≤ length xs) × (length (linksOf js xs bs ys) ≤ length bs) × (length (linksOf js xs bs ys) ≤ length ys)
+pub links-most : (fs : List ℕ) (xs : List ℤ) (bs : List ℕ) (ys : List ℤ)
+    → (length (linksOf fs xs bs ys) ≤ length fs) × (length (linksOf fs xs bs ys) ≤ length xs) × (length (linksOf fs xs bs ys) ≤ length bs) × (length (linksOf fs xs bs ys) ≤ length ys)
 unfolding linksOf
 links-most [] xs bs ys = (zero-le, zero-le, zero-le, zero-le)
-links-most (a ∷ js) [] bs ys = (zero-le, zero-le, zero-le, zero-le)
-links-most (a ∷ js) (x ∷ xs) [] ys = (zero-le, zero-le, zero-le, zero-le)
-links-most (a ∷ js) (x ∷ xs) (b ∷ bs) [] = (zero-le, zero-le, zero-le, zero-le)
-links-most (a ∷ js) (x ∷ xs) (b ∷ bs) (y ∷ ys) =
-    let h = links-most js xs bs ys in (omega (arith, h .0), omega (arith, h .1), omega (arith, h .2), omega (arith, h .3))
+links-most (a ∷ fs) [] bs ys = (zero-le, zero-le, zero-le, zero-le)
+links-most (a ∷ fs) (x ∷ xs) [] ys = (zero-le, zero-le, zero-le, zero-le)
+links-most (a ∷ fs) (x ∷ xs) (b ∷ bs) [] = (zero-le, zero-le, zero-le, zero-le)
+links-most (a ∷ fs) (x ∷ xs) (b ∷ bs) (y ∷ ys) =
+    let h = links-most fs xs bs ys in (omega (arith, h .0), omega (arith, h .1), omega (arith, h .2), omega (arith, h .3))
 
-pub links-least : (js : List ℕ) (xs : List ℤ) (bs : List ℕ) (ys : List ℤ) (n : ℕ) → n ≤ length js → n ≤ length xs → n ≤ length bs → n ≤ length ys
-    → n ≤ length (linksOf js xs bs ys)
+pub links-least : (fs : List ℕ) (xs : List ℤ) (bs : List ℕ) (ys : List ℤ) (n : ℕ) → n ≤ length fs → n ≤ length xs → n ≤ length bs → n ≤ length ys
+    → n ≤ length (linksOf fs xs bs ys)
 unfolding linksOf
-links-least js xs bs ys zero h i j k = zero-le
+links-least fs xs bs ys zero h i j k = zero-le
 links-least [] xs bs ys (suc n) h i j k = absurd (not-suc-le-zero h)
-links-least (a ∷ js) [] bs ys (suc n) h i j k = absurd (not-suc-le-zero i)
-links-least (a ∷ js) (x ∷ xs) [] ys (suc n) h i j k = absurd (not-suc-le-zero j)
-links-least (a ∷ js) (x ∷ xs) (b ∷ bs) [] (suc n) h i j k = absurd (not-suc-le-zero k)
-links-least (a ∷ js) (x ∷ xs) (b ∷ bs) (y ∷ ys) (suc n) h i j k =
-    omega (arith, links-least js xs bs ys n (omega arith) (omega arith) (omega arith) (omega arith))
+links-least (a ∷ fs) [] bs ys (suc n) h i j k = absurd (not-suc-le-zero i)
+links-least (a ∷ fs) (x ∷ xs) [] ys (suc n) h i j k = absurd (not-suc-le-zero j)
+links-least (a ∷ fs) (x ∷ xs) (b ∷ bs) [] (suc n) h i j k = absurd (not-suc-le-zero k)
+links-least (a ∷ fs) (x ∷ xs) (b ∷ bs) (y ∷ ys) (suc n) h i j k =
+    omega (arith, links-least fs xs bs ys n (omega arith) (omega arith) (omega arith) (omega arith))
 
 -- the first k + 1 are the first k and the one at k
-pub take-links : (js : List ℕ) (xs : List ℤ) (bs : List ℕ) (ys : List ℤ) (k : ℕ) → k < length (linksOf js xs bs ys)
-    → take (suc k) (linksOf js xs bs ys) ≡ take k (linksOf js xs bs ys) ++ (linkAt js xs bs ys k ∷ [])
+pub take-links : (fs : List ℕ) (xs : List ℤ) (bs : List ℕ) (ys : List ℤ) (k : ℕ) → k < length (linksOf fs xs bs ys)
+    → take (suc k) (linksOf fs xs bs ys) ≡ take k (linksOf fs xs bs ys) ++ (linkAt fs xs bs ys k ∷ [])
 unfolding linksOf
 take-links [] xs bs ys k h = absurd (not-suc-le-zero h)
-take-links (a ∷ js) [] bs ys k h = absurd (not-suc-le-zero h)
-take-links (a ∷ js) (x ∷ xs) [] ys k h = absurd (not-suc-le-zero h)
-take-links (a ∷ js) (x ∷ xs) (b ∷ bs) [] k h = absurd (not-suc-le-zero h)
-take-links (a ∷ js) (x ∷ xs) (b ∷ bs) (y ∷ ys) zero h = refl
-take-links (a ∷ js) (x ∷ xs) (b ∷ bs) (y ∷ ys) (suc k) h =
-    ap (λ (l : List Link). record { a = a; x = x; b = b; y = y } ∷ l) (take-links js xs bs ys k (le-of-suc-le-suc h))
+take-links (a ∷ fs) [] bs ys k h = absurd (not-suc-le-zero h)
+take-links (a ∷ fs) (x ∷ xs) [] ys k h = absurd (not-suc-le-zero h)
+take-links (a ∷ fs) (x ∷ xs) (b ∷ bs) [] k h = absurd (not-suc-le-zero h)
+take-links (a ∷ fs) (x ∷ xs) (b ∷ bs) (y ∷ ys) zero h = refl
+take-links (a ∷ fs) (x ∷ xs) (b ∷ bs) (y ∷ ys) (suc k) h =
+    ap (λ (l : List Link). record { a = a; x = x; b = b; y = y } ∷ l) (take-links fs xs bs ys k (le-of-suc-le-suc h))
 
 -- ---- the list of a pair
 -- one correspondence, as far as it is one of c and d
@@ -135,62 +135,62 @@ unfolding xsOf ysOf
 nth-after [] qs p = (refl, refl)
 nth-after (q ∷ ps) qs p = nth-after ps qs p
 
-module _ (js : List ℕ) (xs : List ℤ) (bs : List ℕ) (ys : List ℤ) (c d : ℕ) where
+module _ (fs : List ℕ) (xs : List ℤ) (bs : List ℕ) (ys : List ℤ) (c d : ℕ) where
   -- how many correspondences of c and d stand before correspondence k
   abbrev pub before : ℕ → ℕ
-  before k = length (listOf (take k (linksOf js xs bs ys)) c d)
+  before k = length (listOf (take k (linksOf fs xs bs ys)) c d)
 
-  before-more : (k : ℕ) → k < length (linksOf js xs bs ys) → before (suc k) ≡ before k + length (seen (linkAt js xs bs ys k) c d)
+  before-more : (k : ℕ) → k < length (linksOf fs xs bs ys) → before (suc k) ≡ before k + length (seen (linkAt fs xs bs ys k) c d)
   before-more k h =
-      ap (λ (l : List Link). length (listOf l c d)) (take-links js xs bs ys k h)
-      ∙ ap length (list-more (take k (linksOf js xs bs ys)) (linkAt js xs bs ys k) c d)
-      ∙ length-append (listOf (take k (linksOf js xs bs ys)) c d) (seen (linkAt js xs bs ys k) c d)
+      ap (λ (l : List Link). length (listOf l c d)) (take-links fs xs bs ys k h)
+      ∙ ap length (list-more (take k (linksOf fs xs bs ys)) (linkAt fs xs bs ys k) c d)
+      ∙ length-append (listOf (take k (linksOf fs xs bs ys)) c d) (seen (linkAt fs xs bs ys k) c d)
 
-  pub before-mono : (m k : ℕ) → k + m ≤ length (linksOf js xs bs ys) → before k ≤ before (k + m)
+  pub before-mono : (m k : ℕ) → k + m ≤ length (linksOf fs xs bs ys) → before k ≤ before (k + m)
   before-mono zero k h = let e : k ≡ k + 0 = omega arith in rw (← e) (omega arith)
   before-mono (suc m) k h =
       let e : k + suc m ≡ suc (k + m) = omega arith in
       rw e (omega (arith, before-more (k + m) (omega arith), before-mono m k (omega arith)))
 
   -- the list is that of those before k, of k, and of those after
-  pub around : (k : ℕ) → k < length (linksOf js xs bs ys)
-      → listOf (linksOf js xs bs ys) c d ≡ listOf (take k (linksOf js xs bs ys)) c d ++ (seen (linkAt js xs bs ys k) c d ++ listOf (drop (suc k) (linksOf js xs bs ys)) c d)
+  pub around : (k : ℕ) → k < length (linksOf fs xs bs ys)
+      → listOf (linksOf fs xs bs ys) c d ≡ listOf (take k (linksOf fs xs bs ys)) c d ++ (seen (linkAt fs xs bs ys k) c d ++ listOf (drop (suc k) (linksOf fs xs bs ys)) c d)
   around k h =
-      ap (λ (l : List Link). listOf l c d) (sym (take-append-drop (suc k) (linksOf js xs bs ys)))
-      ∙ list-append (take (suc k) (linksOf js xs bs ys)) (drop (suc k) (linksOf js xs bs ys)) c d
-      ∙ ap (λ (l : List Link). listOf l c d ++ listOf (drop (suc k) (linksOf js xs bs ys)) c d) (take-links js xs bs ys k h)
-      ∙ ap (λ (p : List Pair). p ++ listOf (drop (suc k) (linksOf js xs bs ys)) c d) (list-more (take k (linksOf js xs bs ys)) (linkAt js xs bs ys k) c d)
-      ∙ append-assoc (listOf (take k (linksOf js xs bs ys)) c d) (seen (linkAt js xs bs ys k) c d) (listOf (drop (suc k) (linksOf js xs bs ys)) c d)
+      ap (λ (l : List Link). listOf l c d) (sym (take-append-drop (suc k) (linksOf fs xs bs ys)))
+      ∙ list-append (take (suc k) (linksOf fs xs bs ys)) (drop (suc k) (linksOf fs xs bs ys)) c d
+      ∙ ap (λ (l : List Link). listOf l c d ++ listOf (drop (suc k) (linksOf fs xs bs ys)) c d) (take-links fs xs bs ys k h)
+      ∙ ap (λ (p : List Pair). p ++ listOf (drop (suc k) (linksOf fs xs bs ys)) c d) (list-more (take k (linksOf fs xs bs ys)) (linkAt fs xs bs ys k) c d)
+      ∙ append-assoc (listOf (take k (linksOf fs xs bs ys)) c d) (seen (linkAt fs xs bs ys k) c d) (listOf (drop (suc k) (linksOf fs xs bs ys)) c d)
 
-  pub stands : (k : ℕ) (p : Pair) → k < length (linksOf js xs bs ys) → seen (linkAt js xs bs ys k) c d ≡ p ∷ []
-      → (before k < length (listOf (linksOf js xs bs ys) c d)) × (nth (xsOf (listOf (linksOf js xs bs ys) c d)) (before k) ≡ p .x) × (nth (ysOf (listOf (linksOf js xs bs ys) c d)) (before k) ≡ p .y)
+  pub stands : (k : ℕ) (p : Pair) → k < length (linksOf fs xs bs ys) → seen (linkAt fs xs bs ys k) c d ≡ p ∷ []
+      → (before k < length (listOf (linksOf fs xs bs ys) c d)) × (nth (xsOf (listOf (linksOf fs xs bs ys) c d)) (before k) ≡ p .x) × (nth (ysOf (listOf (linksOf fs xs bs ys) c d)) (before k) ≡ p .y)
   stands k p h e =
-      let qs : List Pair = listOf (drop (suc k) (linksOf js xs bs ys)) c d in
-      let w : listOf (linksOf js xs bs ys) c d ≡ listOf (take k (linksOf js xs bs ys)) c d ++ (p ∷ qs) = around k h ∙ ap (λ (r : List Pair). listOf (take k (linksOf js xs bs ys)) c d ++ (r ++ qs)) e in
-      let n = nth-after (listOf (take k (linksOf js xs bs ys)) c d) qs p in (
-        omega (arith, ap length w ∙ length-append (listOf (take k (linksOf js xs bs ys)) c d) (p ∷ qs)),
+      let qs : List Pair = listOf (drop (suc k) (linksOf fs xs bs ys)) c d in
+      let w : listOf (linksOf fs xs bs ys) c d ≡ listOf (take k (linksOf fs xs bs ys)) c d ++ (p ∷ qs) = around k h ∙ ap (λ (r : List Pair). listOf (take k (linksOf fs xs bs ys)) c d ++ (r ++ qs)) e in
+      let n = nth-after (listOf (take k (linksOf fs xs bs ys)) c d) qs p in (
+        omega (arith, ap length w ∙ length-append (listOf (take k (linksOf fs xs bs ys)) c d) (p ∷ qs)),
         ap (λ (r : List Pair). nth (xsOf r) (before k)) w ∙ n .0,
         ap (λ (r : List Pair). nth (ysOf r) (before k)) w ∙ n .1,
       )
 
   -- and whatever stands in the list is some correspondence
-  pub found : (n j : ℕ) → n ≤ length (linksOf js xs bs ys) → j < before n → (k : ℕ) × (k < n) × (before k ≡ j) × (seen (linkAt js xs bs ys k) c d ≡ [] → ⊥)
+  pub found : (n j : ℕ) → n ≤ length (linksOf fs xs bs ys) → j < before n → (k : ℕ) × (k < n) × (before k ≡ j) × (seen (linkAt fs xs bs ys k) c d ≡ [] → ⊥)
   unfolding listOf
   found zero j h l = absurd (not-suc-le-zero l)
   found (suc n) j h l = go (decLt j (before n)) (found n j (omega arith))
     where
-      some : seen (linkAt js xs bs ys n) c d ≡ [] → j < before n
+      some : seen (linkAt fs xs bs ys n) c d ≡ [] → j < before n
       some e = omega (arith, before-more n h, ap length e)
 
-      at-most : length (seen (linkAt js xs bs ys n) c d) ≤ 1
-      at-most = small (eqb (getD js n 0) c && eqb (getD bs n 0) d) (eqb (getD js n 0) d && eqb (getD bs n 0) c)
+      at-most : length (seen (linkAt fs xs bs ys n) c d) ≤ 1
+      at-most = small (eqb (getD fs n 0) c && eqb (getD bs n 0) d) (eqb (getD fs n 0) d && eqb (getD bs n 0) c)
         where
           small : (p q : Bool) → length {A = Pair} (cond p (record { x = nth xs n; y = nth ys n } ∷ []) (cond q (record { x = nth ys n; y = nth xs n } ∷ []) [])) ≤ 1
           small true q = omega arith
           small false true = omega arith
           small false false = omega arith
 
-      go : Dec (j < before n) → (j < before n → (k : ℕ) × (k < n) × (before k ≡ j) × (seen (linkAt js xs bs ys k) c d ≡ [] → ⊥))
-          → (k : ℕ) × (k < suc n) × (before k ≡ j) × (seen (linkAt js xs bs ys k) c d ≡ [] → ⊥)
+      go : Dec (j < before n) → (j < before n → (k : ℕ) × (k < n) × (before k ≡ j) × (seen (linkAt fs xs bs ys k) c d ≡ [] → ⊥))
+          → (k : ℕ) × (k < suc n) × (before k ≡ j) × (seen (linkAt fs xs bs ys k) c d ≡ [] → ⊥)
       go (yes m) ih = let (k, q, e, s) = ih m in (k, omega arith, e, s)
       go (no m) ih = (n, omega arith, omega (arith, before-more n h, at-most), λ e. m (some e))

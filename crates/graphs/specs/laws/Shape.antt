@@ -11,7 +11,7 @@ use Rattle.numbers.specs.declared.Owner.{Owner}
 use Rattle.numbers.specs.declared.Owner.the-variants.{Domain, Private, Nobody}
 use Rattle.whole.specs.Pairs.{Pair, swapped}
 use Rattle.paths.specs.laws.Least.{and-left, and-right, and-both}
-use Rattle.paths.specs.laws.Reach.{Within}
+use Rattle.paths.specs.Statements.{Within}
 use Rattle.graphs.specs.Links.{Link, listOf}
 use Rattle.graphs.specs.Graphs.{World, owner, domains, to-trace, guess, some, joined, graph}
 use Rattle.graphs.specs.laws.Links.{seen, Sight, sight, list-cons, seen-forwards, seen-backwards}
