@@ -1,5 +1,8 @@
 #!/usr/bin/env python3
-"""A second reader of JSON, written from RFC 8259 and RFC 3629 alone, to compare with the proved one.
+"""A second reader of JSON by RFC 8259 and RFC 3629, of another make than the proved one, to compare with it.
+
+It has the same author as the proved reader's definitions and was written after them, so it finds slips and not a misreading
+that both share.
 
 It is a machine that eats one byte at a time, with a stack of open brackets. `read(text)` answers
 ('done', n), ('bad', p) or ('deep', p): p is the first byte after which no well-formed text is possible (the
