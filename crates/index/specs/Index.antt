@@ -114,12 +114,12 @@ colOf ix i j = pick (ltb i 32) (pick (ltb j 12) (getD ix (6 + (77 * i + j)) 0) 0
 unfoldable pub itemOf : List ℕ → ℕ → ℕ → ℕ → ℕ
 itemOf ix i k j = pick (ltb i 32) (pick (ltb k 32) (pick (ltb j 2) (getD ix (6 + (77 * i + (13 + (2 * k + j)))) 0) 0) 0) 0
 
--- how many entries the index holds, and how many items of entry i
+-- how many entries the index holds, none without `files`; and how many items of entry i, none without `machines`
 unfoldable pub entriesIn : List ℕ → ℕ
-entriesIn ix = min 32 (getD ix 5 0)
+entriesIn ix = pick (eqb (getD ix 0 0) 0) 0 (min 32 (getD ix 5 0))
 
 unfoldable pub itemsIn : List ℕ → ℕ → ℕ
-itemsIn ix i = pick (ltb i 32) (min 32 (getD ix (6 + (77 * i + 12)) 0)) 0
+itemsIn ix i = pick (eqb (colOf ix i 3) 0) 0 (min 32 (getD ix (6 + (77 * i + 12)) 0))
 
 -- ---- the manifest that an index stands for
 

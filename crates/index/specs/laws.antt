@@ -5,3 +5,4 @@ pub mod Seen
 pub mod Back
 pub mod Many
 pub mod Put
+pub mod Entries

@@ -43,6 +43,9 @@ fn held(n: usize) -> usize
 pub fn entries(ix: &[usize; 2470]) -> usize
     ensures { λ r. ⌜ r ≡ entriesIn (now (ix .entry)) ⌝ }
 {
+    if ix[0] == 0 {
+        return 0;
+    }
     held(ix[5])
 }
 
@@ -51,6 +54,9 @@ pub fn items(ix: &[usize; 2470], i: usize) -> usize
     ensures { λ r. ⌜ r ≡ itemsIn (now (ix .entry)) i ⌝ }
 {
     if i < 32 {
+        if ix[6 + (77 * i + 3)] == 0 {
+            return 0;
+        }
         return held(ix[6 + (77 * i + 12)]);
     }
     0

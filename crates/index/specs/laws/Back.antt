@@ -1,10 +1,10 @@
 -- An index read back: what it stands for is what is seen by positions. Assumes nothing.
 use mathlib.Core.Path.{_≡_, refl, ap, _∙_}
 use mathlib.Core.Bool.{Bool, true, false}
-use mathlib.Core.List.{List, map}
+use mathlib.Core.List.{List, [], map}
 use Prim.Native.Nat.{ℕ, zero, suc, _+_, _*_, _≤_, _<_, min}
 use native.Mathlib.Omega.{arith}
-use lib.Dec.{ltb}
+use lib.Dec.{eqb, ltb}
 use lib.IntN.{pos}
 use lib.ListN.{length, getD, length-append, List·getD-append}
 use lib.Seq.{getD-append-add}
@@ -12,6 +12,7 @@ use borrow.Author.Tests.{lt-ltb, ltb-true}
 use Rattle.text.specs.Reading.{Text, pick}
 use Rattle.text.specs.laws.Readers.{pick-true}
 use Rattle.values.specs.Integer.{whole}
+use Rattle.places.specs.Places.{itemsAt}
 use Rattle.manifest.specs.Names.{bytes}
 use Rattle.manifest.specs.Kinds.{object, entry, item, manifest, trace-time}
 use Rattle.manifest.specs.View.{one}
@@ -47,6 +48,15 @@ unfolding indexOf headRow
 index-long s v =
     length-append (headRow s v) (rows (λ k. block s (getD (filesOf s v) k 0)) 32)
     ∙ ap (λ (n : ℕ). 6 + n) (rows-length 77 (λ k. block s (getD (filesOf s v) k 0)) (λ k. block-length s _) 32)
+
+-- at most 32 items are counted as they are, and without an array there are none
+counted : (s : Text) (p : ℕ) → length (itemsOf s p) ≤ 32 → pick (eqb p 0) 0 (min 32 (length (itemsOf s p))) ≡ length (itemsOf s p)
+unfolding itemsOf pick
+counted s p = go (eqb p 0) (itemsAt s p)
+  where
+    go : (b : Bool) (l : List ℕ) → length (pick b [] l) ≤ 32 → pick b 0 (min 32 (length (pick b [] l))) ≡ length (pick b [] l)
+    go true l h = refl
+    go false l h = omega arith
 
 -- one condition, two values
 under : (b : Bool) {x y : ℕ} → (b ≡ true → x ≡ y) → pick b x 0 ≡ pick b y 0
@@ -91,10 +101,10 @@ module _ (s : Text) (v : ℕ) where
     -- the items, where there are at most 32
     module _ (few : length (machinesOf s (getD (filesOf s v) i 0)) ≤ 32) where
       items-count : itemsIn (indexOf s v) i ≡ length (machinesOf s (getD (filesOf s v) i 0))
-      unfolding itemsIn entryRow
+      unfolding itemsIn entryRow pick column
       items-count =
-          pick-true _ _ (lt-ltb i 32 small)
-          ∙ (ap (min 32) (in-row 12 (omega arith)) ∙ (let e : min 32 (length (machinesOf s (getD (filesOf s v) i 0))) ≡ length (machinesOf s (getD (filesOf s v) i 0)) = omega arith in e))
+          (λ t. pick (eqb (cols-are t 3) 0) 0 (min 32 (in-row 12 (omega arith) t)))
+          ∙ counted s (column s (getD (filesOf s v) i 0) (bytes "machines")) few
 
       items-back : itemsFrom s (indexOf s v) i ≡ map (λ q. seen (object item) s q) (machinesOf s (getD (filesOf s v) i 0))
       unfolding itemsFrom seen itemBy itemRow pick
@@ -116,7 +126,7 @@ module _ (s : Text) (v : ℕ) where
     entries-back : listed (λ i. one (entryAt s (indexOf s v) i)) 0 (entriesIn (indexOf s v)) ≡ map (λ q. seen (object entry) s q) (filesOf s v)
     unfolding entriesIn indexOf headRow seen
     entries-back =
-        (let e : min 32 (length (filesOf s v)) ≡ length (filesOf s v) = omega arith in ap (listed (λ i. one (entryAt s (indexOf s v) i)) 0) e)
+        ap (listed (λ i. one (entryAt s (indexOf s v) i)) 0) (counted s (column s v (bytes "files")) few)
         ∙ listed-map (λ i. one (entryAt s (indexOf s v) i)) (λ q. seen (object entry) s q) (filesOf s v) 0 each
       where
         each : (k : ℕ) → k < length (filesOf s v) → one (entryAt s (indexOf s v) (0 + k)) ≡ seen (object entry) s (getD (filesOf s v) k 0)
