@@ -5,3 +5,7 @@ pub mod Walk
 pub mod Rows
 pub mod Chains
 pub mod Firsts
+pub mod Answered
+pub mod Known
+pub mod Same
+pub mod Swaps
