@@ -13,7 +13,7 @@ use Rattle.places.specs.Places.{memberAt, itemsAt}
 use Rattle.manifest.specs.Names.{bytes}
 use Rattle.manifest.specs.View.{Cell, absent, one, asInteger}
 use Rattle.manifest.specs.Rows.{Manifest, TraceTime, Entry, Item, Clocks, SyncTo, any}
-use Rattle.manifest.specs.Rules.{most-entries, most-items}
+use Rattle.manifest.specs.Rules.{most-entries, most-items, Whose, host, called}
 
 -- ---- what stands at a position
 
@@ -173,3 +173,7 @@ manifestOf s ix = (
     (at (getD ix 0 0) (one (listed (λ i. one (entryAt s ix i)) 0 (entriesIn ix))), tt),
   ),
 )
+
+-- the machine whose name stands at p; the host, if p is 0
+unfoldable pub whoseAt : Text → ℕ → Whose
+whoseAt s p = pick (eqb p 0) host (called (textAt s p))

@@ -1,0 +1,29 @@
+-- `cited::is_unnamed` meets its contract: without a machine the entry of the named file tells.
+-- Assumes nothing.
+use Rattle.cited.specs.laws.Rule20.{machine-named, machine-unnamed}
+use borrow.Author.Needs.{needs}
+use Rattle.cited.proofs.is_unnamed.Statement.{statement}
+use Rattle.cited.proofs.is_unnamed.Tie as tie
+
+col-requires : tie.Need-col-requires
+col-requires c κs = search needs
+
+returns : tie.Need-returns
+returns c = machine-named (c .before .before .before .args .s .now) (c .before .before .before .args .ix .now) (c .before .before .before .args .i) (c .before .col .ensures) (c .if1 .taken)
+
+col-requires-2 : tie.Need-col-requires-2
+col-requires-2 c κs = search needs
+
+cited-entry-requires : tie.Need-cited-entry-requires
+cited-entry-requires c κs = search needs
+
+is-split-requires : tie.Need-is-split-requires
+is-split-requires c κs = search needs
+
+returns-2 : tie.Need-returns-2
+returns-2 c = machine-unnamed (c .before .before .before .before .before .before .args .s .now) (c .before .before .before .before .before .before .args .ix .now) (c .before .before .before .before .before .before .args .i) (c .before .before .before .before .col .ensures) (c .before .before .before .if1 .left) (c .before .before .col2 .ensures) (c .before .cited-entry .result) (c .before .cited-entry .ensures) (c .is-split .ensures)
+
+pub is-unnamed-spec : {M : Type 1} → statement M
+is-unnamed-spec =
+    tie.close
+    (tie.spec col-requires returns col-requires-2 cited-entry-requires is-split-requires returns-2)

@@ -1,0 +1,56 @@
+-- The entry that the `file` at a position names. Assumes nothing.
+use mathlib.Core.Path.{_≡_, refl, sym, ap, _∙_}
+use mathlib.Core.Bool.{Bool, true, false, not}
+use mathlib.Core.List.{List}
+use Prim.Native.Nat.{ℕ, _≤_, _<_}
+use native.Mathlib.Omega.{arith}
+use lib.Dec.{ltb}
+use borrow.Author.Tests.{eq-eqb, ne-eqb, lt-ltb, le-ltb}
+use Rattle.text.specs.Reading.{Text, pick}
+use Rattle.text.specs.laws.Readers.{pick-true, pick-false}
+use Rattle.manifest.specs.View.{Cell, absent, one}
+use Rattle.manifest.specs.Rows.{Entry, is-absent, holds}
+use Rattle.manifest.specs.Rules.{named-entry, no-entry}
+use Rattle.index.specs.Index.{textAt, at, textCell, entryAt, manifestOf}
+use Rattle.finds.specs.Finds.{entryOf}
+use Rattle.finds.specs.Theorems.{find-is, named-entry-is}
+use Rattle.cited.specs.laws.Cells.{holds-none, holds-some}
+
+-- entry e with its number, if e is below 32
+unfoldable pub foundAt : Text → List ℕ → ℕ → Cell (ℕ × Entry)
+foundAt s ix e = pick (ltb e 32) (one (e, entryAt s ix e)) absent
+
+module _ (s : Text) (ix : List ℕ) (e : ℕ) where
+  pub found-some : e < 32 → foundAt s ix e ≡ one (e, entryAt s ix e)
+  unfolding foundAt
+  found-some h = pick-true {A = Cell (ℕ × Entry)} (one (e, entryAt s ix e)) absent (lt-ltb e 32 h)
+
+  pub found-none : 32 ≤ e → foundAt s ix e ≡ absent
+  unfolding foundAt
+  found-none h = pick-false {A = Cell (ℕ × Entry)} (one (e, entryAt s ix e)) absent (le-ltb e 32 h)
+
+module _ (s : Text) (ix : List ℕ) (p : ℕ) where
+  pub named-none : p ≡ 0 → named-entry (manifestOf s ix) (textCell s p) ≡ foundAt s ix 32
+  unfolding at
+  named-none h = named-entry-is s ix p ∙ (pick-true {A = Cell (ℕ × Entry)} absent _ (eq-eqb p 0 h) ∙ sym (found-none s ix 32 (omega arith)))
+
+  pub named-some : (p ≡ 0 → ⊥) → {e : ℕ} → e ≡ entryOf (manifestOf s ix) (textAt s p) → named-entry (manifestOf s ix) (textCell s p) ≡ foundAt s ix e
+  unfolding foundAt at
+  named-some h ee = named-entry-is s ix p ∙ (pick-false _ _ (ne-eqb p 0 h) ∙ ap (foundAt s ix) (sym ee))
+
+  -- no entry has the path at p
+  pub cites-none : p ≡ 0 → false ≡ holds (no-entry (manifestOf s ix)) (textCell s p)
+  cites-none h = sym (holds-none (no-entry (manifestOf s ix)) p (textAt s p) h)
+
+  module _ (there : p ≡ 0 → ⊥) {e : ℕ} (ee : e ≡ entryOf (manifestOf s ix) (textAt s p)) where
+    cited-is : holds (no-entry (manifestOf s ix)) (textCell s p) ≡ is-absent (foundAt s ix e)
+    unfolding foundAt
+    cited-is = holds-some (no-entry (manifestOf s ix)) p (textAt s p) there ∙ (ap is-absent (find-is s ix (textAt s p)) ∙ ap (λ (n : ℕ). is-absent (foundAt s ix n)) (sym ee))
+
+    pub cites-some : not (ltb e 32) ≡ holds (no-entry (manifestOf s ix)) (textCell s p)
+    unfolding foundAt is-absent pick
+    cites-some = sym (cited-is ∙ go (ltb e 32))
+      where
+        go : (b : Bool) → is-absent (pick {A = Cell (ℕ × Entry)} b (one (e, entryAt s ix e)) absent) ≡ not b
+        go true = refl
+        go false = refl

@@ -1,0 +1,355 @@
+// Refusals 19 to 23: cited files and machines, and offsets.
+ghost use mathlib.Core.Path.{_≡_};
+ghost use Rattle.json.specs.Tree.{same};
+ghost use Rattle.manifest.specs.Rows.{holds, any, declared};
+ghost use Rattle.manifest.specs.Rules.{applies, first, named-entry, no-entry, not-declared, no-integer, too-far};
+ghost use Rattle.manifest.specs.Rules.{refusal-19-file-names-no-entry, refusal-20-no-machine-of-a-split-file, refusal-21-machine-not-declared};
+ghost use Rattle.manifest.specs.Rules.{refusal-22-offset-not-an-integer, refusal-23-offset-out-of-range};
+ghost use Rattle.index.specs.Index.{textAt, textCell, offsetCell, entryAt, manifestOf};
+ghost use Rattle.cited.specs.Cited.{cited-rules};
+ghost use Rattle.cited.specs.laws.Within.{outsideOf, withinAt};
+ghost use Rattle.cited.specs.laws.Files.{foundAt};
+ghost use Rattle.cited.specs.laws.Declared.{machineIs};
+ghost use Rattle.cited.specs.laws.Rule20.{splitAt, ownless, unnamed};
+ghost use Rattle.cited.specs.laws.Rule21.{strange};
+
+// Which entry the file at p names; 32 if it names none, or if p is 0.
+fn cited_entry(s: &[u8], ix: &[usize; 2470], p: usize) -> usize
+    ensures { λ r. ⌜ named-entry (manifestOf (now (s .entry)) (now (ix .entry))) (textCell (now (s .entry)) p) ≡ foundAt (now (s .entry)) (now (ix .entry)) r ⌝ }
+{
+    if p == 0 {
+        return 32;
+    }
+    finds::entry_with(s, ix, p)
+}
+
+// A file is cited at p, and no entry has its path.
+fn cites_no_entry(s: &[u8], ix: &[usize; 2470], p: usize) -> bool
+    ensures { λ r. ⌜ r ≡ holds (no-entry (manifestOf (now (s .entry)) (now (ix .entry)))) (textCell (now (s .entry)) p) ⌝ }
+{
+    if p == 0 {
+        return false;
+    }
+    let e = finds::entry_with(s, ix, p);
+    let found = e < 32;
+    !found
+}
+
+// 19 in `trace_time`.
+fn refusal_19_outside(s: &[u8], ix: &[usize; 2470]) -> bool
+    ensures { λ r. ⌜ r ≡ outsideOf refusal-19-file-names-no-entry (now (s .entry)) (now (ix .entry)) ⌝ }
+{
+    if ix[1] == 0 {
+        return false;
+    }
+    let cited = ix[3];
+    cites_no_entry(s, ix, cited)
+}
+
+// 19 in entry i.
+fn refusal_19_in(s: &[u8], ix: &[usize; 2470], i: usize) -> bool
+    ensures { λ r. ⌜ r ≡ withinAt refusal-19-file-names-no-entry (now (s .entry)) (now (ix .entry)) i ⌝ }
+{
+    if index::col(ix, i, 4) == 0 {
+        return false;
+    }
+    if index::col(ix, i, 7) == 0 {
+        return false;
+    }
+    let cited = index::col(ix, i, 8);
+    cites_no_entry(s, ix, cited)
+}
+
+// 19: a `file` in `sync_to` or `trace_time` names no entry.
+fn refusal_19_file_names_no_entry(s: &[u8], ix: &[usize; 2470]) -> bool
+    ensures { λ r. ⌜ r ≡ applies refusal-19-file-names-no-entry (manifestOf (now (s .entry)) (now (ix .entry))) ⌝ }
+{
+    if refusal_19_outside(s, ix) {
+        return true;
+    }
+    let n = index::entries(ix);
+    let mut i: usize = 0;
+    while i < n {
+        if refusal_19_in(s, ix, i) {
+            return true;
+        }
+        i += 1;
+    }
+    false
+}
+
+// Entry e is split; none from 32 on is.
+fn is_split(ix: &[usize; 2470], e: usize) -> bool
+    ensures { λ r. ⌜ r ≡ splitAt (now (ix .entry)) e ⌝ }
+{
+    index::col(ix, e, 3) != 0
+}
+
+// Entry i is split, and its `clocks` names no machine.
+fn is_ownless(ix: &[usize; 2470], i: usize) -> bool
+    ensures { λ r. ⌜ r ≡ ownless (now (ix .entry)) i ⌝ }
+{
+    if is_split(ix, i) {
+        return index::col(ix, i, 6) == 0;
+    }
+    false
+}
+
+// The `sync_to` of entry i names no machine, and a file that is split.
+fn is_unnamed(s: &[u8], ix: &[usize; 2470], i: usize) -> bool
+    ensures { λ r. ⌜ r ≡ unnamed (now (s .entry)) (now (ix .entry)) i ⌝ }
+{
+    if index::col(ix, i, 9) != 0 {
+        return false;
+    }
+    let named = index::col(ix, i, 8);
+    let e = cited_entry(s, ix, named);
+    is_split(ix, e)
+}
+
+// 20 in entry i.
+fn refusal_20_in(s: &[u8], ix: &[usize; 2470], i: usize) -> bool
+    ensures { λ r. ⌜ r ≡ withinAt refusal-20-no-machine-of-a-split-file (now (s .entry)) (now (ix .entry)) i ⌝ }
+{
+    let clocks = index::col(ix, i, 4);
+    if clocks == 0 {
+        return false;
+    }
+    if is_ownless(ix, i) {
+        return true;
+    }
+    if index::col(ix, i, 7) == 0 {
+        return false;
+    }
+    is_unnamed(s, ix, i)
+}
+
+// 20: no `machine` in the `clocks` of a split file, or in a `sync_to` that names one.
+fn refusal_20_no_machine_of_a_split_file(s: &[u8], ix: &[usize; 2470]) -> bool
+    ensures { λ r. ⌜ r ≡ applies refusal-20-no-machine-of-a-split-file (manifestOf (now (s .entry)) (now (ix .entry))) ⌝ }
+{
+    let n = index::entries(ix);
+    let mut i: usize = 0;
+    while i < n {
+        if refusal_20_in(s, ix, i) {
+            return true;
+        }
+        i += 1;
+    }
+    false
+}
+
+// The name at q is the one at p; no name stands at 0.
+fn same_name(s: &[u8], p: usize, q: usize) -> bool
+    ensures { λ r. ⌜ r ≡ holds (same (textAt (now (s .entry)) p)) (textCell (now (s .entry)) q) ⌝ }
+{
+    if q == 0 {
+        return false;
+    }
+    index::same_at(s, p, q)
+}
+
+// The name at p is that of the `machine` of entry e.
+fn is_machine(s: &[u8], ix: &[usize; 2470], e: usize, p: usize) -> bool
+    ensures { λ r. ⌜ r ≡ machineIs (now (s .entry)) (now (ix .entry)) e (textAt (now (s .entry)) p) ⌝ }
+{
+    if index::col(ix, e, 1) == 0 {
+        return false;
+    }
+    let name = index::col(ix, e, 2);
+    same_name(s, p, name)
+}
+
+// Entry e declares the name at p.
+fn declares(s: &[u8], ix: &[usize; 2470], e: usize, p: usize) -> bool
+    ensures { λ r. ⌜ r ≡ any (same (textAt (now (s .entry)) p)) (declared (entryAt (now (s .entry)) (now (ix .entry)) e)) ⌝ }
+{
+    if is_machine(s, ix, e, p) {
+        return true;
+    }
+    let n = index::items(ix, e);
+    let mut k: usize = 0;
+    while k < n {
+        let name = index::item(ix, e, k, 1);
+        if same_name(s, p, name) {
+            return true;
+        }
+        k += 1;
+    }
+    false
+}
+
+// A machine is named at p, and entry e does not declare it.
+fn is_undeclared(s: &[u8], ix: &[usize; 2470], e: usize, p: usize) -> bool
+    ensures { λ r. ⌜ r ≡ holds (not-declared (entryAt (now (s .entry)) (now (ix .entry)) e)) (textCell (now (s .entry)) p) ⌝ }
+{
+    if p == 0 {
+        return false;
+    }
+    let declared = declares(s, ix, e, p);
+    !declared
+}
+
+// The file at p has an entry, and a machine is named at q that this entry does not declare.
+fn is_strange(s: &[u8], ix: &[usize; 2470], p: usize, q: usize) -> bool
+    ensures { λ r. ⌜ r ≡ strange (now (s .entry)) (now (ix .entry)) p q ⌝ }
+{
+    let e = cited_entry(s, ix, p);
+    if e < 32 {
+        return is_undeclared(s, ix, e, q);
+    }
+    false
+}
+
+// 21 in `trace_time`.
+fn refusal_21_outside(s: &[u8], ix: &[usize; 2470]) -> bool
+    ensures { λ r. ⌜ r ≡ outsideOf refusal-21-machine-not-declared (now (s .entry)) (now (ix .entry)) ⌝ }
+{
+    if ix[1] == 0 {
+        return false;
+    }
+    let file = ix[3];
+    let machine = ix[4];
+    is_strange(s, ix, file, machine)
+}
+
+// 21 in entry i.
+fn refusal_21_in(s: &[u8], ix: &[usize; 2470], i: usize) -> bool
+    ensures { λ r. ⌜ r ≡ withinAt refusal-21-machine-not-declared (now (s .entry)) (now (ix .entry)) i ⌝ }
+{
+    if index::col(ix, i, 4) == 0 {
+        return false;
+    }
+    let own = index::col(ix, i, 6);
+    if is_undeclared(s, ix, i, own) {
+        return true;
+    }
+    if index::col(ix, i, 7) == 0 {
+        return false;
+    }
+    let file = index::col(ix, i, 8);
+    let machine = index::col(ix, i, 9);
+    is_strange(s, ix, file, machine)
+}
+
+// 21: a `machine` in `clocks`, `sync_to` or `trace_time` is not declared by that file.
+fn refusal_21_machine_not_declared(s: &[u8], ix: &[usize; 2470]) -> bool
+    ensures { λ r. ⌜ r ≡ applies refusal-21-machine-not-declared (manifestOf (now (s .entry)) (now (ix .entry))) ⌝ }
+{
+    if refusal_21_outside(s, ix) {
+        return true;
+    }
+    let n = index::entries(ix);
+    let mut i: usize = 0;
+    while i < n {
+        if refusal_21_in(s, ix, i) {
+            return true;
+        }
+        i += 1;
+    }
+    false
+}
+
+// A value stands at p that is no integer.
+fn no_integer(s: &[u8], p: usize) -> bool
+    ensures { λ r. ⌜ r ≡ holds no-integer (offsetCell (now (s .entry)) p) ⌝ }
+{
+    if p == 0 {
+        return false;
+    }
+    match values::integer_at(s, p) {
+        values::Integer::In(_) => false,
+        values::Integer::Below => false,
+        values::Integer::Above => false,
+        values::Integer::None => true,
+    }
+}
+
+// 22 in entry i.
+fn refusal_22_in(s: &[u8], ix: &[usize; 2470], i: usize) -> bool
+    ensures { λ r. ⌜ r ≡ withinAt refusal-22-offset-not-an-integer (now (s .entry)) (now (ix .entry)) i ⌝ }
+{
+    if index::col(ix, i, 4) == 0 {
+        return false;
+    }
+    let offset = index::col(ix, i, 11);
+    no_integer(s, offset)
+}
+
+// 22: an `offset_ns` is not an integer.
+fn refusal_22_offset_not_an_integer(s: &[u8], ix: &[usize; 2470]) -> bool
+    ensures { λ r. ⌜ r ≡ applies refusal-22-offset-not-an-integer (manifestOf (now (s .entry)) (now (ix .entry))) ⌝ }
+{
+    let n = index::entries(ix);
+    let mut i: usize = 0;
+    while i < n {
+        if refusal_22_in(s, ix, i) {
+            return true;
+        }
+        i += 1;
+    }
+    false
+}
+
+// An integer stands at p that is out of range: -2^63 is, though 64 bits hold it.
+fn too_far(s: &[u8], p: usize) -> bool
+    ensures { λ r. ⌜ r ≡ holds too-far (offsetCell (now (s .entry)) p) ⌝ }
+{
+    if p == 0 {
+        return false;
+    }
+    match values::integer_at(s, p) {
+        values::Integer::In(z) => z < -9223372036854775807,
+        values::Integer::Below => true,
+        values::Integer::Above => true,
+        values::Integer::None => false,
+    }
+}
+
+// 23 in entry i.
+fn refusal_23_in(s: &[u8], ix: &[usize; 2470], i: usize) -> bool
+    ensures { λ r. ⌜ r ≡ withinAt refusal-23-offset-out-of-range (now (s .entry)) (now (ix .entry)) i ⌝ }
+{
+    if index::col(ix, i, 4) == 0 {
+        return false;
+    }
+    let offset = index::col(ix, i, 11);
+    too_far(s, offset)
+}
+
+// 23: an `offset_ns` is below -(2^63-1) or above 2^63-1.
+fn refusal_23_offset_out_of_range(s: &[u8], ix: &[usize; 2470]) -> bool
+    ensures { λ r. ⌜ r ≡ applies refusal-23-offset-out-of-range (manifestOf (now (s .entry)) (now (ix .entry))) ⌝ }
+{
+    let n = index::entries(ix);
+    let mut i: usize = 0;
+    while i < n {
+        if refusal_23_in(s, ix, i) {
+            return true;
+        }
+        i += 1;
+    }
+    false
+}
+
+// The number of the first of these rules that applies to the manifest; 0 if none does.
+pub fn refusal(s: &[u8], ix: &[usize; 2470]) -> u8
+    ensures { λ r. ⌜ r ≡ first cited-rules (manifestOf (now (s .entry)) (now (ix .entry))) ⌝ }
+{
+    if refusal_19_file_names_no_entry(s, ix) {
+        return 19;
+    }
+    if refusal_20_no_machine_of_a_split_file(s, ix) {
+        return 20;
+    }
+    if refusal_21_machine_not_declared(s, ix) {
+        return 21;
+    }
+    if refusal_22_offset_not_an_integer(s, ix) {
+        return 22;
+    }
+    if refusal_23_offset_out_of_range(s, ix) {
+        return 23;
+    }
+    0
+}

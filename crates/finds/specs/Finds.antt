@@ -1,0 +1,27 @@
+-- What is found in an index: the entry of a path, the item of an id, the name of a file's base machine. Assumes nothing.
+use mathlib.Core.List.{List}
+use Prim.Native.Nat.{ℕ}
+use lib.Dec.{eqb}
+use lib.IntN.{pos}
+use Rattle.text.specs.Reading.{Text, pick}
+use Rattle.manifest.specs.Rows.{Manifest, id, firstOr, holds, entries, its-items}
+use Rattle.manifest.specs.Rules.{has-path, same-id}
+use Rattle.index.specs.Index.{colOf, itemOf, entryAt}
+
+-- which entry has a path: the first one that has it; 32 if none has
+unfoldable pub entryOf : Manifest → Text → ℕ
+entryOf m t = firstOr 32 (holds (has-path t)) (entries m) 0
+
+-- which item of entry i has an id: the first one that has it; 32 if none has
+unfoldable pub itemWith : Text → List ℕ → ℕ → ℕ → ℕ
+itemWith s ix i z = firstOr 32 (λ v. holds (same-id (pos z)) (id v)) (its-items (entryAt s ix i)) 0
+
+-- where entry i has the name for an id; 0 if it has none
+unfoldable pub nameFor : Text → List ℕ → ℕ → ℕ → ℕ
+nameFor s ix i z = itemOf ix i (itemWith s ix i z) 1
+
+-- "A file's base machine: its `machine`; or its name for id 0; or the host": where the name stands; 0 for the host
+unfoldable pub baseAt : Text → List ℕ → ℕ → ℕ
+baseAt s ix i =
+    pick (eqb (colOf ix i 1) 0) (nameFor s ix i 0)
+    (pick (eqb (colOf ix i 2) 0) (nameFor s ix i 0) (colOf ix i 2))

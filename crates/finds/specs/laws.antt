@@ -1,0 +1,6 @@
+-- Laws of the definitions, for the theorems, the proofs, and those who build on them.
+pub mod Swaps
+pub mod Firsts
+pub mod Paths
+pub mod Ids
+pub mod Bases

@@ -1,0 +1,3 @@
+-- Refusal 24: a clock related to itself. In reading order.
+pub mod Itself
+pub mod laws

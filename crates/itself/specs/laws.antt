@@ -1,0 +1,3 @@
+-- Laws of the definitions, for the proofs and those who build on them.
+pub mod Clocks
+pub mod Related

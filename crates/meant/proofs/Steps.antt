@@ -1,0 +1,189 @@
+-- The definitions in the terms that the code meets: a premise for each thing that was found, in the code's order. Assumes nothing.
+use mathlib.Core.Path.{_≡_, refl, sym, ap, _∙_}
+use mathlib.Core.Bool.{Bool, true, false}
+use mathlib.Core.List.{List}
+use Prim.Native.Nat.{ℕ, _+_, _*_, _≤_, _<_}
+use lib.Dec.{eqb, ltb}
+use lib.IntN.{ℤ, pos}
+use lib.ListN.{getD}
+use mir.Syntax.{w64}
+use mir.Val.{SFits, toZ, ofZ}
+use mir.Facts.{toZ-ofZ}
+use borrow.Author.Tests.{eq-eqb, ne-eqb, lt-ltb, le-ltb, ltb-true}
+use Rattle.text.specs.Reading.{Text, pick}
+use Rattle.text.specs.laws.Readers.{pick-true, pick-false}
+use Rattle.values.specs.Integer.{integerAt}
+use Rattle.values.specs.declared.Integer.{Integer}
+use Rattle.values.specs.declared.Integer.the-variants.{In}
+use Rattle.numbers.specs.declared.Machine.{Machine}
+use Rattle.manifest.specs.declared.Cited.{Cited}
+use Rattle.manifest.specs.declared.Cited.the-variants.{Private, Domain}
+use Rattle.manifest.specs.declared.Link.{Link}
+use Rattle.manifest.specs.declared.Link.the-variants.{Unrelated, Related}
+use Rattle.manifest.specs.declared.Timeline.the-variants.{Unset, Set}
+use Rattle.outline.specs.Outline.{domainAt}
+use Rattle.index.specs.Index.{textAt, colOf, manifestOf}
+use Rattle.finds.specs.Finds.{entryOf, nameFor, baseAt}
+use Rattle.named.specs.Named.{numberAt}
+use Rattle.meant.specs.declared.Owned.the-variants.{Nobody, Whole, Split}
+use Rattle.meant.specs.declared.Part.the-variants.{Undeclared, Of}
+use Rattle.meant.specs.Meant.{offsetIn, baseOf, ownedOf, partOf, citedAt, offsetAt, relatedTo, linkOf, traceMachineAt, timelineOf}
+
+-- a number that was found is 0, or is not
+zero : {a b : ℕ} → a ≡ b → a ≡ 0 → eqb b 0 ≡ true
+zero {a} {b} e z = eq-eqb b 0 (sym e ∙ z)
+
+some : {a b : ℕ} → a ≡ b → (a ≡ 0 → ⊥) → eqb b 0 ≡ false
+some {a} {b} e n = ne-eqb b 0 (λ z. n (e ∙ z))
+
+-- a column of no entry is 0
+pub col-below : (ix : List ℕ) (i j : ℕ) {a : ℕ} → a ≡ colOf ix i j → (a ≡ 0 → ⊥) → i < 32
+unfolding colOf pick
+col-below ix i j {a} e n = go (ltb i 32) refl e
+  where
+    go : (b : Bool) → ltb i 32 ≡ b → a ≡ pick b (pick (ltb j 12) (getD ix (6 + (77 * i + j)) 0) 0) 0 → i < 32
+    go true q f = ltb-true i 32 q
+    go false q f = absurd (n f)
+
+-- `machine_at`
+module _ (s : Text) (ix : List ℕ) (i machine : ℕ) where
+  pub machine-base : machine ≡ 0 → {p : ℕ} → p ≡ baseAt s ix i → p ≡ pick (eqb machine 0) (baseAt s ix i) machine
+  machine-base z e = e ∙ sym (pick-true _ machine (zero refl z))
+
+  pub machine-own : (machine ≡ 0 → ⊥) → machine ≡ pick (eqb machine 0) (baseAt s ix i) machine
+  machine-own n = sym (pick-false _ machine (some refl n))
+
+module _ (s : Text) (ix names : List ℕ) where
+  -- `base`: p is where its name stands
+  pub base-step : (i : ℕ) {p : ℕ} → p ≡ baseAt s ix i → {k : Machine} → k ≡ numberAt s names p → k ≡ baseOf s ix names i
+  unfolding baseOf
+  base-step i e f = f ∙ ap (numberAt s names) e
+
+  -- `owned_of`: a and b are columns 3 and 1
+  module _ (i : ℕ) {a : ℕ} (ea : a ≡ colOf ix i 3) where
+    pub owned-split : (a ≡ 0 → ⊥) → Split ≡ ownedOf s ix names i
+    unfolding ownedOf
+    owned-split n = sym (pick-false _ Split (some ea n))
+
+    module _ (za : a ≡ 0) {b : ℕ} (eb : b ≡ colOf ix i 1) where
+      pub owned-nobody : b ≡ 0 → Nobody ≡ ownedOf s ix names i
+      unfolding ownedOf
+      owned-nobody z = sym (pick-true _ Split (zero ea za) ∙ pick-true Nobody _ (zero eb z))
+
+      pub owned-whole : (b ≡ 0 → ⊥) → {k : Machine} → k ≡ baseOf s ix names i → Whole k ≡ ownedOf s ix names i
+      unfolding ownedOf
+      owned-whole n e = ap Whole e ∙ sym (pick-true _ Split (zero ea za) ∙ pick-false Nobody _ (some eb n))
+
+  -- `part_of`: p is where the name stands
+  module _ (i z : ℕ) {p : ℕ} (e : p ≡ nameFor s ix i z) where
+    pub part-none : p ≡ 0 → Undeclared ≡ partOf s ix names i z
+    unfolding partOf
+    part-none h = sym (pick-true Undeclared _ (zero e h))
+
+    pub part-some : (p ≡ 0 → ⊥) → {k : Machine} → k ≡ numberAt s names p → Of k ≡ partOf s ix names i z
+    unfolding partOf
+    part-some h f = ap Of (f ∙ ap (numberAt s names) e) ∙ sym (pick-false Undeclared _ (some e h))
+
+  -- `cited_at`: d is the domain, p where the name of the machine stands
+  module _ (i : ℕ) where
+    pub cited-private : (clock machine : ℕ) → clock ≡ 0 → Private i ≡ citedAt s ix names i clock machine
+    unfolding citedAt
+    cited-private clock machine z = sym (pick-true (Private i) _ (zero refl z))
+
+    pub cited-domain : (clock machine : ℕ) → (clock ≡ 0 → ⊥) → {d : ℕ} → d ≡ domainAt s clock → {p : ℕ} → p ≡ pick (eqb machine 0) (baseAt s ix i) machine
+        → {k : Machine} → k ≡ numberAt s names p → Domain d k ≡ citedAt s ix names i clock machine
+    unfolding citedAt
+    cited-domain clock machine n ed ep ek = (λ j. Domain (ed j) ((ek ∙ ap (numberAt s names) ep) j)) ∙ sym (pick-false (Private i) _ (some refl n))
+
+  -- `offset_at`: r is what integer stands there
+  module _ (p : ℕ) where
+    pub offset-none : p ≡ 0 → pos 0 ≡ offsetAt s ix names p
+    unfolding offsetAt
+    offset-none z = sym (pick-true (pos 0) _ (zero refl z))
+
+    pub offset-in : (p ≡ 0 → ⊥) → {r : Integer} → r ≡ integerAt s p → {z : ℤ} → r ≡ In z → SFits w64 z → toZ w64 (ofZ w64 z) ≡ offsetAt s ix names p
+    unfolding offsetAt offsetIn
+    offset-in n e f fits = toZ-ofZ fits ∙ (ap offsetIn (sym f ∙ e) ∙ sym (pick-false (pos 0) _ (some refl n)))
+
+    -- (below, above, and where no integer stands)
+    pub offset-out : (p ≡ 0 → ⊥) → {r : Integer} → r ≡ integerAt s p → {v : Integer} → r ≡ v → offsetIn v ≡ offsetAt s ix names p
+    unfolding offsetAt
+    offset-out n e f = ap offsetIn (sym f ∙ e) ∙ sym (pick-false (pos 0) _ (some refl n))
+
+  -- `related_to`: the columns, the two clocks and the offset
+  pub related : (i e : ℕ) {a b c d o : ℕ} → a ≡ colOf ix i 5 → b ≡ colOf ix i 6 → {x : Cited} → x ≡ citedAt s ix names i a b
+      → c ≡ colOf ix i 10 → d ≡ colOf ix i 9 → {y : Cited} → y ≡ citedAt s ix names e c d
+      → o ≡ colOf ix i 11 → {z : ℤ} → z ≡ offsetAt s ix names o → SFits w64 z → Related (record { from = x; to = y; offset = toZ w64 (ofZ w64 z) }) ≡ relatedTo s ix names i e
+  unfolding relatedTo
+  related i e ea eb ex ec ed ey eo ez fits =
+      λ j. Related (record {
+        from = (ex ∙ (λ k. citedAt s ix names i (ea k) (eb k))) j;
+        to = (ey ∙ (λ k. citedAt s ix names e (ec k) (ed k))) j;
+        offset = (toZ-ofZ fits ∙ (ez ∙ ap (offsetAt s ix names) eo)) j;
+      })
+
+  -- `link`: a, b and f are columns 4, 7 and 8, e the entry that is found
+  module _ (i : ℕ) {a : ℕ} (ea : a ≡ colOf ix i 4) where
+    pub link-no-clocks : a ≡ 0 → Unrelated ≡ linkOf s ix names i
+    unfolding linkOf
+    link-no-clocks z = sym (pick-true Unrelated _ (zero ea z))
+
+    module _ (na : a ≡ 0 → ⊥) {b : ℕ} (eb : b ≡ colOf ix i 7) where
+      pub link-no-sync : b ≡ 0 → Unrelated ≡ linkOf s ix names i
+      unfolding linkOf
+      link-no-sync z = sym (pick-false Unrelated _ (some ea na) ∙ pick-true Unrelated _ (zero eb z))
+
+      module _ (nb : b ≡ 0 → ⊥) {f : ℕ} (ef : f ≡ colOf ix i 8) where
+        pub link-no-file : f ≡ 0 → Unrelated ≡ linkOf s ix names i
+        unfolding linkOf
+        link-no-file z = sym (pick-false Unrelated _ (some ea na) ∙ (pick-false Unrelated _ (some eb nb) ∙ pick-true Unrelated _ (zero ef z)))
+
+        module _ (nf : f ≡ 0 → ⊥) {e : ℕ} (ee : e ≡ entryOf (manifestOf s ix) (textAt s f)) where
+          there : e ≡ entryOf (manifestOf s ix) (textAt s (colOf ix i 8))
+          there = ee ∙ ap (λ (p : ℕ). entryOf (manifestOf s ix) (textAt s p)) ef
+
+          at-file : linkOf s ix names i ≡ pick (ltb e 32) (relatedTo s ix names i e) Unrelated
+          unfolding linkOf
+          at-file =
+              pick-false Unrelated _ (some ea na)
+              ∙ (pick-false Unrelated _ (some eb nb)
+              ∙ (pick-false Unrelated _ (some ef nf) ∙ ap (λ (k : ℕ). pick (ltb k 32) (relatedTo s ix names i k) Unrelated) (sym there)))
+
+          pub link-no-entry : 32 ≤ e → Unrelated ≡ linkOf s ix names i
+          link-no-entry h = sym (at-file ∙ pick-false (relatedTo s ix names i e) Unrelated (le-ltb e 32 h))
+
+          pub link-related : e < 32 → {r : Link} → r ≡ relatedTo s ix names i e → r ≡ linkOf s ix names i
+          link-related h q = q ∙ sym (at-file ∙ pick-true (relatedTo s ix names i e) Unrelated (lt-ltb e 32 h))
+
+  -- `trace_machine_at`: e is the entry that is found
+  pub trace-own : (getD ix 4 0 ≡ 0 → ⊥) → getD ix 4 0 ≡ traceMachineAt s ix names
+  unfolding traceMachineAt
+  trace-own n = sym (pick-false _ (getD ix 4 0) (some refl n))
+
+  module _ (z : getD ix 4 0 ≡ 0) where
+    pub trace-host : getD ix 3 0 ≡ 0 → 0 ≡ traceMachineAt s ix names
+    unfolding traceMachineAt
+    trace-host y = sym (pick-true _ (getD ix 4 0) (zero refl z) ∙ pick-true 0 _ (zero refl y))
+
+    module _ (n : getD ix 3 0 ≡ 0 → ⊥) {e : ℕ} (ee : e ≡ entryOf (manifestOf s ix) (textAt s (getD ix 3 0))) where
+      at-trace : traceMachineAt s ix names ≡ pick (ltb e 32) (baseAt s ix e) 0
+      unfolding traceMachineAt
+      at-trace =
+          pick-true _ (getD ix 4 0) (zero refl z)
+          ∙ (pick-false 0 _ (some refl n) ∙ ap (λ (k : ℕ). pick (ltb k 32) (baseAt s ix k) 0) (sym ee))
+
+      pub trace-base : e < 32 → {p : ℕ} → p ≡ baseAt s ix e → p ≡ traceMachineAt s ix names
+      trace-base h q = q ∙ sym (at-trace ∙ pick-true (baseAt s ix e) 0 (lt-ltb e 32 h))
+
+      pub trace-no-entry : 32 ≤ e → 0 ≡ traceMachineAt s ix names
+      trace-no-entry h = sym (at-trace ∙ pick-false (baseAt s ix e) 0 (le-ltb e 32 h))
+
+  -- `timeline`
+  pub timeline-unset : getD ix 1 0 ≡ 0 → Unset ≡ timelineOf s ix names
+  unfolding timelineOf
+  timeline-unset z = sym (pick-true Unset _ (zero refl z))
+
+  pub timeline-set : (getD ix 1 0 ≡ 0 → ⊥) → {d : ℕ} → d ≡ domainAt s (getD ix 2 0) → {p : ℕ} → p ≡ traceMachineAt s ix names → {k : Machine} → k ≡ numberAt s names p
+      → Set d k ≡ timelineOf s ix names
+  unfolding timelineOf
+  timeline-set n ed ep ek = (λ j. Set (ed j) ((ek ∙ ap (numberAt s names) ep) j)) ∙ sym (pick-false Unset _ (some refl n))

@@ -1,0 +1,7 @@
+-- Laws of the definitions, for the theorems and those who build on them.
+pub mod Listings
+pub mod Offsets
+pub mod Parts
+pub mod Links
+pub mod Traced
+pub mod Owners

@@ -1,0 +1,176 @@
+-- The clocks that an entry relates: those that its members name in the tables are those of the meaning. Assumes nothing.
+use mathlib.Core.Path.{_≡_, refl, sym, ap, _∙_}
+use mathlib.Core.Bool.{Bool, true, false}
+use mathlib.Core.List.{List}
+use Prim.Native.Nat.{ℕ, _+_, _≤_, _<_}
+use lib.Dec.{eqb, ltb}
+use lib.ListN.{length}
+use Rattle.text.specs.Reading.{Text, Out, done, bad, deep, pick}
+use Rattle.text.specs.Strings.{string}
+use Rattle.manifest.specs.declared.Cited.the-variants.{Private, Domain}
+use Rattle.manifest.specs.declared.Relation.{Relation}
+use Rattle.manifest.specs.declared.Link.{Link}
+use Rattle.manifest.specs.declared.Link.the-variants.{Unrelated, Related}
+use Rattle.manifest.specs.View.{Cell, absent, one}
+use Rattle.manifest.specs.Rows.{Manifest, Entry, Clocks, SyncTo, syncTo, sync-file, offset, the, any, onto, holds, entries, its-clocks}
+use Rattle.manifest.specs.Rules.{Rule, applies, rules, refusal-5-or-later, host, called, cited-or, base, clockAt, source, reference, domain, find, named-entry, no-integer, too-far, refusal-22-offset-not-an-integer, refusal-23-offset-out-of-range}
+use Rattle.manifest.specs.Meaning.{names-in, numberOf, cited, offsetOf, linked, relation}
+use Rattle.manifest.specs.Statements.{All, all-one}
+use Rattle.manifest.specs.laws.Bools.{halves}
+use Rattle.manifest.specs.laws.Lists.{anyAt-false}
+use Rattle.manifest.specs.laws.Accepted.{no-rule}
+use Rattle.outline.specs.Outline.{domainAt, textAt as outlineText, textIn as outlineIn}
+use Rattle.index.specs.Index.{textIn, textAt, colOf, entriesIn, at, textCell, offsetCell, syncBy, clocksBy, entryBy, entryAt, manifestOf, whoseAt}
+use Rattle.finds.specs.Finds.{entryOf, baseAt}
+use Rattle.finds.specs.Theorems.{find-is, base-is}
+use Rattle.named.specs.Named.{nameTable, numberAt}
+use Rattle.named.specs.Theorems.{number-is}
+use Rattle.meant.specs.Meant.{citedAt, offsetAt, relatedTo, linkOf}
+use Rattle.meant.specs.laws.Listings.{entry-at}
+use Rattle.meant.specs.laws.Offsets.{offset-is}
+
+-- ---- texts and machines at positions
+
+-- both readings of the string at p
+text-is : (s : Text) (p : ℕ) → outlineText s p ≡ textAt s p
+unfolding outlineText textAt outlineIn textIn
+text-is s p = go (string s p)
+  where
+    go : (o : Out Text) → outlineIn o ≡ textIn o
+    go (done t j) = refl
+    go (bad i) = refl
+    go (deep i) = refl
+
+pub domain-is : (s : Text) (p : ℕ) → domainAt s p ≡ domain (textAt s p)
+unfolding domainAt
+domain-is s p = ap domain (text-is s p)
+
+-- the machine whose name stands at q, or else the one whose name stands at p
+pub whose-or : (s : Text) (p q : ℕ) → whoseAt s (pick (eqb q 0) p q) ≡ cited-or (textCell s q) (whoseAt s p)
+unfolding whoseAt cited-or at pick
+whose-or s p q = go (eqb q 0) refl
+  where
+    go : (b : Bool) → eqb q 0 ≡ b → whoseAt s (pick b p q) ≡ cited-or (pick b absent (one (textAt s q))) (whoseAt s p)
+    go true e = refl
+    go false e = ap (λ (b : Bool). pick b host (called (textAt s q))) e
+
+-- ---- what an entry's `clocks` say, one member after the other
+
+module _ {A : Type 0} (p : ℕ) (a : A) where
+  linked-at : (f : A → Cell Relation) {x : Link} → (eqb p 0 ≡ false → x ≡ linked (f a)) → pick (eqb p 0) Unrelated x ≡ linked (onto (at p (one a)) f)
+  unfolding at onto linked pick
+  linked-at f {x} = go (eqb p 0)
+    where
+      go : (b : Bool) → (b ≡ false → x ≡ linked (f a)) → pick b Unrelated x ≡ linked (onto (pick b absent (one a)) f)
+      go true h = refl
+      go false h = h refl
+
+  linked-by : {B : Type 0} (g : A → Cell B) (f : B → Cell Relation) {x : Link} → x ≡ linked (onto (g a) f) → pick (eqb p 0) Unrelated x ≡ linked (onto (onto (at p (one a)) g) f)
+  unfolding at onto linked pick
+  linked-by g f {x} = go (eqb p 0)
+    where
+      go : (b : Bool) → x ≡ linked (onto (g a) f) → pick b Unrelated x ≡ linked (onto (onto (pick b absent (one a)) g) f)
+      go true h = refl
+      go false h = h
+
+linked-if : {A : Type 0} (b : Bool) (a : A) (f : A → Cell Relation) {x : Link} → x ≡ linked (f a) → pick b x Unrelated ≡ linked (onto (pick b (one a) absent) f)
+unfolding onto linked pick
+linked-if true a f h = h
+linked-if false a f h = refl
+
+-- the relation, one member after the other
+module _ (m : Manifest) (i : ℕ) (e : Entry) where
+  abbrev over-entry : Clocks → SyncTo → ℕ × Entry → Cell Relation
+  over-entry c s p = one (record { from = cited (names-in m) (source i e c); to = cited (names-in m) (reference p s); offset = offsetOf (offset c) })
+
+  abbrev over-sync : Clocks → SyncTo → Cell Relation
+  over-sync c s = onto (named-entry m (sync-file s)) (over-entry c s)
+
+  abbrev over-clocks : Clocks → Cell Relation
+  over-clocks c = onto (syncTo c) (over-sync c)
+
+-- ---- 22 and 23 do not apply
+
+not-22 : (m : Manifest) → All (λ r. applies r m ≡ false) rules → applies refusal-22-offset-not-an-integer m ≡ false
+not-22 m (all-one a (all-one b (all-one c (all-one d (all-one e (all-one f (all-one g (all-one h (all-one i (all-one j (all-one k (all-one l (all-one n (all-one o (all-one p (all-one q (all-one t r))))))))))))))))) = t
+
+not-23 : (m : Manifest) → All (λ r. applies r m ≡ false) rules → applies refusal-23-offset-out-of-range m ≡ false
+not-23 m (all-one a (all-one b (all-one c (all-one d (all-one e (all-one f (all-one g (all-one h (all-one i (all-one j (all-one k (all-one l (all-one n (all-one o (all-one p (all-one q (all-one t (all-one u r)))))))))))))))))) = u
+
+module _ (s : Text) (ix : List ℕ) {i : ℕ} (below : i < entriesIn ix) where
+  -- a test that no `offset_ns` meets
+  module _ (p : _) (none-does : any (λ c. holds p (offset c)) (its-clocks (entryAt s ix i)) ≡ false) where
+    offset-not : eqb (colOf ix i 4) 0 ≡ false → holds p (offsetCell s (colOf ix i 11)) ≡ false
+    unfolding entryAt entryBy clocksBy at the any pick
+    offset-not e =
+        halves (holds p (offsetCell s (colOf ix i 11))) false
+        (sym (ap (λ (b : Bool). any (λ (c : Clocks). holds p (offset c)) (the (pick b absent (one (clocksBy s (colOf ix i)))))) e) ∙ none-does) .0
+
+  module _ (accepted : refusal-5-or-later (one (manifestOf s ix)) ≡ 0) (names : List ℕ) (e : eqb (colOf ix i 4) 0 ≡ false) where
+    within-not : (r : Rule) → applies r (manifestOf s ix) ≡ false → r .within (manifestOf s ix) (0 + i) (one (entryAt s ix i)) ≡ false
+    unfolding applies
+    within-not r f = anyAt-false (r .within (manifestOf s ix)) 0 (halves (r .outside (manifestOf s ix)) _ f .1) (entry-at s ix below)
+
+    pub offset-told : offsetAt s ix names (colOf ix i 11) ≡ offsetOf (offsetCell s (colOf ix i 11))
+    unfolding refusal-22-offset-not-an-integer refusal-23-offset-out-of-range holds
+    offset-told =
+        offset-is s ix names (colOf ix i 11)
+        (offset-not no-integer (within-not refusal-22-offset-not-an-integer (not-22 (manifestOf s ix) (no-rule (manifestOf s ix) accepted))) e)
+        (offset-not too-far (within-not refusal-23-offset-out-of-range (not-23 (manifestOf s ix) (no-rule (manifestOf s ix) accepted))) e)
+
+-- ---- the clocks
+
+module _ (s : Text) (ix : List ℕ) (few : length (names-in (manifestOf s ix)) ≤ 32) where
+  -- the machine that a `machine` at a position names, or else the base machine of the file of entry i
+  machine-told : (i machine : ℕ) → numberAt s (nameTable s ix) (pick (eqb machine 0) (baseAt s ix i) machine) ≡ numberOf (names-in (manifestOf s ix)) (cited-or (textCell s machine) (base (entryAt s ix i)))
+  machine-told i machine =
+      number-is s ix (pick (eqb machine 0) (baseAt s ix i) machine) few
+      ∙ ap (numberOf (names-in (manifestOf s ix))) (whose-or s (baseAt s ix i) machine ∙ ap (cited-or (textCell s machine)) (sym (base-is s ix i)))
+
+  pub cited-told : (i clock machine : ℕ) → citedAt s ix (nameTable s ix) i clock machine ≡ cited (names-in (manifestOf s ix)) (clockAt i (entryAt s ix i) (textCell s clock) (textCell s machine))
+  unfolding citedAt cited clockAt at pick
+  cited-told i clock machine = go (eqb clock 0)
+    where
+      go : (b : Bool) → pick b (Private i) (Domain (domainAt s clock) (numberAt s (nameTable s ix) (pick (eqb machine 0) (baseAt s ix i) machine)))
+          ≡ cited (names-in (manifestOf s ix)) (clockAt i (entryAt s ix i) (pick b absent (one (textAt s clock))) (textCell s machine))
+      go true = refl
+      go false = λ j. Domain (domain-is s clock j) (machine-told i machine j)
+
+  module _ (accepted : refusal-5-or-later (one (manifestOf s ix)) ≡ 0) {i : ℕ} (below : i < entriesIn ix) where
+    abbrev its-file : ℕ
+    its-file = entryOf (manifestOf s ix) (textAt s (colOf ix i 8))
+
+    related-told : eqb (colOf ix i 4) 0 ≡ false
+        → relatedTo s ix (nameTable s ix) i its-file
+        ≡ Related (record {
+          from = cited (names-in (manifestOf s ix)) (source i (entryAt s ix i) (clocksBy s (colOf ix i)));
+          to = cited (names-in (manifestOf s ix)) (reference (its-file, entryAt s ix its-file) (syncBy s (colOf ix i)));
+          offset = offsetOf (offset (clocksBy s (colOf ix i)));
+        })
+    unfolding relatedTo clocksBy syncBy
+    related-told e = λ j. Related (record {
+      from = cited-told i (colOf ix i 5) (colOf ix i 6) j;
+      to = cited-told its-file (colOf ix i 10) (colOf ix i 9) j;
+      offset = offset-told s ix below accepted (nameTable s ix) e j;
+    })
+
+    pub link-is : linkOf s ix (nameTable s ix) i ≡ linked (relation (manifestOf s ix) i (entryAt s ix i))
+    unfolding linkOf entryAt entryBy clocksBy syncBy linked
+    link-is =
+        linked-at (colOf ix i 4) (clocksBy s (colOf ix i)) (over-clocks m i e) (λ h.
+        linked-at (colOf ix i 7) (syncBy s (colOf ix i)) (over-sync m i e c) (λ _.
+        linked-by (colOf ix i 8) (textAt s (colOf ix i 8)) (λ t. find t 0 (entries m)) (over-entry m i e c u)
+        (linked-if (ltb its-file 32) (its-file, entryAt s ix its-file) (over-entry m i e c u) (related-told h)
+        ∙ ap (λ (x : Cell (ℕ × Entry)). linked (onto x (over-entry m i e c u))) (sym (find-is s ix (textAt s (colOf ix i 8)))))))
+      where
+        m : Manifest
+        m = manifestOf s ix
+
+        e : Entry
+        e = entryAt s ix i
+
+        c : Clocks
+        c = clocksBy s (colOf ix i)
+
+        u : SyncTo
+        u = syncBy s (colOf ix i)

@@ -1,0 +1,50 @@
+-- The named machines: where the name of each first stands, and the number of a machine by its name. Assumes nothing.
+use mathlib.Core.Bool.{Bool, not, _&&_}
+use mathlib.Core.List.{List, [], _∷_, _++_}
+use Prim.Native.Nat.{ℕ, _-_}
+use lib.Dec.{eqb}
+use lib.ListN.{length, take, replicate}
+use Rattle.text.specs.Reading.{Text, pick}
+use Rattle.json.specs.Tree.{same}
+use Rattle.numbers.specs.declared.Machine.{Machine}
+use Rattle.manifest.specs.Rows.{firstOr, flat}
+use Rattle.index.specs.Index.{textAt, colOf, itemOf, entriesIn, itemsIn, listed}
+
+-- a position, if it is one: 0 stands for no value
+unfoldable pub place : ℕ → List ℕ
+place p = pick (eqb p 0) [] (p ∷ [])
+
+-- where the names that entry i declares stand: its `machine`'s name, then those of its items
+unfoldable pub declaredAt : List ℕ → ℕ → List ℕ
+declaredAt ix i =
+    pick (eqb (colOf ix i 1) 0) [] (place (colOf ix i 2))
+    ++ flat (λ k. place (itemOf ix i k 1)) (listed (λ k. k) 0 (itemsIn ix i))
+
+-- "each `name` of `machine` and `machines`, in entry order and then item order"
+unfoldable pub declaredIn : List ℕ → List ℕ
+declaredIn ix = flat (declaredAt ix) (listed (λ i. i) 0 (entriesIn ix))
+
+-- "Equal names are one machine": each text once, where it first stands
+unfoldable pub withoutAt : Text → ℕ → List ℕ → List ℕ
+withoutAt s p [] = []
+withoutAt s p (q ∷ l) = pick (same (textAt s q) (textAt s p)) (withoutAt s p l) (q ∷ withoutAt s p l)
+
+unfoldable pub distinctAt : Text → List ℕ → List ℕ
+distinctAt s [] = []
+distinctAt s (p ∷ l) = p ∷ withoutAt s p (distinctAt s l)
+
+-- where the names of machines 1, 2, .. stand, all of them
+unfoldable pub namesIn : Text → List ℕ → List ℕ
+namesIn s ix = distinctAt s (declaredIn ix)
+
+-- the table of the first 32 of them, then zeros. (More than 31 named machines are refused as 37)
+unfoldable pub nameTable : Text → List ℕ → List ℕ
+nameTable s ix = take 32 (namesIn s ix) ++ replicate (32 - length (take 32 (namesIn s ix))) 0
+
+-- how many names a table holds: up to its first 0
+unfoldable pub countIn : List ℕ → ℕ
+countIn names = firstOr 32 (λ q. eqb q 0) names 0
+
+-- the number of the machine whose name stands at p, by a table: the host's for position 0, and for a name that the table does not hold
+unfoldable pub numberAt : Text → List ℕ → ℕ → Machine
+numberAt s names p = record { 0 = pick (eqb p 0) 0 (firstOr 0 (λ q. not (eqb q 0) && same (textAt s p) (textAt s q)) names 1) }

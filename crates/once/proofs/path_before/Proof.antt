@@ -1,0 +1,66 @@
+-- `once::path_before` meets its contract: the invariant is that the entries from number j on decide, of those before entry i.
+-- Assumes nothing.
+use mathlib.Core.Path.{_≡_}
+use Prim.Native.Nat.{_-_}
+use borrow.Author.Needs.{needs}
+use Rattle.manifest.specs.Rows.{holds, any}
+use Rattle.manifest.specs.Rules.{has-path}
+use Rattle.index.specs.Index.{textAt}
+use Rattle.index.specs.laws.Entries.{from, entryCell}
+use Rattle.once.specs.laws.Parts.{pathBefore}
+use Rattle.once.proofs.Twice.{before-none, before-start, before-past, before-found, before-on}
+use Rattle.once.proofs.path_before.Statement.{statement}
+use Rattle.once.proofs.path_before.Tie as tie
+
+abbrev Inv-loop : tie.InvT-loop
+Inv-loop s ix i p j₀ j = pathBefore s ix i ≡ any (holds (has-path (textAt s p))) (from (entryCell s ix) i j)
+
+abbrev μ-loop : tie.MeasureT-loop
+μ-loop s ix i p j₀ j = i - j
+
+col-requires : tie.Need-col-requires Inv-loop μ-loop
+col-requires c κs = search needs
+
+returns : tie.Need-returns Inv-loop μ-loop
+returns c = before-none (c .before .before .before .args .s .now) (c .before .before .before .args .ix .now) (c .before .before .before .args .i) (c .before .col .ensures) (c .if1 .taken)
+
+loop-holds : tie.Need-loop-holds Inv-loop μ-loop
+loop-holds c = before-start (c .before .before .before .args .s .now) (c .before .before .before .args .ix .now) (c .before .before .before .args .i) (c .before .col .ensures) (c .if1 .left) (c .before .before .before .pre)
+
+col-requires-2 : tie.Need-col-requires-2 Inv-loop μ-loop
+col-requires-2 c κs = search needs
+
+same-path-requires : tie.Need-same-path-requires Inv-loop μ-loop
+same-path-requires c κs = search needs
+
+returns-2 : tie.Need-returns-2 Inv-loop μ-loop
+returns-2 c = before-found (c .before .before .before .before .before .before .before .before .args .s .now) (c .before .before .before .before .before .before .before .before .args .ix .now) (c .before .before .before .before .before .before .before .before .args .i) (c .before .before .before .before .before .before .col .result) (c .before .before .before .before .loop .inv) (c .before .before .before .loop-test .taken) (c .before .before .col2 .ensures) (c .before .same-path .ensures) (c .if2 .taken)
+
+add-j : tie.Need-add-j Inv-loop μ-loop
+add-j c = search needs
+
+loop-less : tie.Need-loop-less Inv-loop μ-loop
+loop-less c = search needs
+
+loop-again : tie.Need-loop-again Inv-loop μ-loop
+loop-again c = before-on (c .before .before .before .before .before .before .before .before .args .s .now) (c .before .before .before .before .before .before .before .before .args .ix .now) (c .before .before .before .before .before .before .before .before .args .i) (c .before .before .before .before .before .before .col .result) (c .before .before .before .before .loop .inv) (c .before .before .before .loop-test .taken) (c .before .before .col2 .ensures) (c .before .same-path .ensures) (c .if2 .left)
+
+returns-3 : tie.Need-returns-3 Inv-loop μ-loop
+returns-3 c = before-past (c .before .before .before .before .before .args .s .now) (c .before .before .before .before .before .args .ix .now) (c .before .before .before .before .before .args .i) (c .before .before .before .col .result) (c .before .loop .inv) (c .loop-test .left)
+
+pub path-before-spec : {M : Type 1} → statement M
+path-before-spec =
+    tie.close
+    (tie.spec
+    Inv-loop
+    μ-loop
+    col-requires
+    returns
+    loop-holds
+    col-requires-2
+    same-path-requires
+    returns-2
+    add-j
+    loop-less
+    loop-again
+    returns-3)

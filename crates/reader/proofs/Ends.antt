@@ -1,0 +1,65 @@
+-- The steps of judging 10 to 24 over the index, and what is left in it. Assumes nothing.
+use mathlib.Core.Path.{_≡_, sym, ap, _∙_}
+use mathlib.Core.Bool.{Bool, true, false}
+use mathlib.Core.List.{List, _++_}
+use Prim.Native.Nat.{ℕ}
+use native.Mathlib.Omega.{arith}
+use Rattle.text.specs.Reading.{Text}
+use Rattle.manifest.specs.Rows.{Manifest}
+use Rattle.manifest.specs.Rules.{first}
+use Rattle.manifest.specs.Manifest.{refusalOf}
+use Rattle.index.specs.Index.{indexOf, tooMany, manifestOf}
+use Rattle.named.specs.Named.{nameTable}
+use Rattle.reader.specs.Reader.{tableOf, namesOf}
+use Rattle.sizes.specs.Sizes.{sizes-rules}
+use Rattle.once.specs.Once.{once-rules}
+use Rattle.cited.specs.Cited.{cited-rules}
+use Rattle.itself.specs.Itself.{itself-rules}
+use Rattle.reader.specs.laws.Parts.{later-rules, first-rest, first-here, sizes-numbered, once-numbered, cited-numbered}
+use Rattle.reader.specs.laws.Passed.{Passed, many-refused, index-judged}
+use Rattle.reader.specs.laws.Tables.{zeros, refused-zeros, accepted-index}
+
+-- ---- part after part
+
+module _ (m : Manifest) {a : ℕ} (sizes : a ≡ first sizes-rules m) where
+  pub in-sizes : (a ≡ 0 → ⊥) → a ≡ first later-rules m
+  in-sizes h = sizes ∙ sym (first-here sizes-rules _ m sizes-numbered (λ q. h (sizes ∙ q)))
+
+  module _ (no-size : a ≡ 0) {b : ℕ} (once : b ≡ first once-rules m) where
+    after-sizes : first later-rules m ≡ first (once-rules ++ (cited-rules ++ itself-rules)) m
+    after-sizes = first-rest sizes-rules _ m sizes-numbered (sym sizes ∙ no-size)
+
+    pub in-once : (b ≡ 0 → ⊥) → b ≡ first later-rules m
+    in-once h = once ∙ sym (after-sizes ∙ first-here once-rules _ m once-numbered (λ q. h (once ∙ q)))
+
+    module _ (no-once : b ≡ 0) {d : ℕ} (cited : d ≡ first cited-rules m) where
+      after-once : first later-rules m ≡ first (cited-rules ++ itself-rules) m
+      after-once = after-sizes ∙ first-rest once-rules _ m once-numbered (sym once ∙ no-once)
+
+      pub in-cited : (d ≡ 0 → ⊥) → d ≡ first later-rules m
+      in-cited h = cited ∙ sym (after-once ∙ first-here cited-rules itself-rules m cited-numbered (λ q. h (cited ∙ q)))
+
+      pub in-itself : d ≡ 0 → {e : ℕ} → e ≡ first itself-rules m → e ≡ first later-rules m
+      in-itself no-cited itself = itself ∙ sym (after-once ∙ first-rest cited-rules itself-rules m cited-numbered (sym cited ∙ no-cited))
+
+-- ---- the index
+
+module _ {s : Text} {v : ℕ} (p : Passed s v) {b : Bool} (many : b ≡ tooMany s v) where
+  pub ends-many : b ≡ true → (10 ≡ refusalOf s) × (zeros ≡ tableOf s)
+  ends-many h = let r : refusalOf s ≡ 10 = many-refused p (sym many ∙ h) in (sym r, sym (refused-zeros s r (λ q. omega arith)))
+
+  module _ (h : b ≡ false) {ix : List ℕ} (fills : ix ≡ indexOf s v) {n : ℕ} (judged : n ≡ first later-rules (manifestOf s ix)) where
+    is-refusal : n ≡ refusalOf s
+    is-refusal = judged ∙ (ap (λ (l : List ℕ). first later-rules (manifestOf s l)) fills ∙ sym (index-judged p (sym many ∙ h)))
+
+    pub ends-later : (n ≡ 0 → ⊥) → (n ≡ refusalOf s) × (zeros ≡ tableOf s)
+    ends-later some = (is-refusal, sym (refused-zeros s (sym is-refusal) some))
+
+    pub accepts : n ≡ 0 → (n ≡ refusalOf s) × (ix ≡ tableOf s)
+    accepts none = (is-refusal, fills ∙ sym (accepted-index s (sym is-refusal ∙ none) (p .its-root)))
+
+-- ---- the names
+
+pub names-are : (s : Text) {ix names : List ℕ} → ix ≡ tableOf s → names ≡ nameTable s ix → names ≡ namesOf s
+unfolding namesOf
+names-are s e f = f ∙ ap (nameTable s) e

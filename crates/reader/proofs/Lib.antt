@@ -1,0 +1,3 @@
+-- Laws that only the proofs of this crate's functions use.
+pub mod Steps
+pub mod Ends

@@ -1,0 +1,30 @@
+-- What reading a manifest leaves: the tables of its index and of its names, and what they say. Assumes nothing.
+use mathlib.Core.List.{List}
+use Prim.Native.Nat.{ℕ}
+use lib.Dec.{eqb}
+use lib.ListN.{replicate}
+use Rattle.text.specs.Reading.{Text, pick}
+use Rattle.manifest.specs.View.{one}
+use Rattle.manifest.specs.Meaning.{Meaning, meant}
+use Rattle.manifest.specs.Manifest.{refusalOf}
+use Rattle.outline.specs.declared.Standing.{Standing}
+use Rattle.outline.specs.declared.Standing.the-variants.{At, Refused}
+use Rattle.outline.specs.Outline.{rootAt}
+use Rattle.index.specs.Index.{indexOf, manifestOf}
+use Rattle.named.specs.Named.{nameTable}
+
+unfoldable pub indexFrom : Text → Standing → List ℕ
+indexFrom s (At v) = indexOf s v
+indexFrom s Refused = replicate 2470 0
+
+-- the index of an accepted manifest; zeros for a refused one, and for none
+unfoldable pub tableOf : Text → List ℕ
+tableOf s = pick (eqb (refusalOf s) 0) (indexFrom s (rootAt s)) (replicate 2470 0)
+
+-- its names' table
+unfoldable pub namesOf : Text → List ℕ
+namesOf s = nameTable s (tableOf s)
+
+-- what a table says
+unfoldable pub meaningBy : Text → List ℕ → Meaning
+meaningBy s ix = meant (one (manifestOf s ix))

@@ -1,0 +1,54 @@
+-- The tables of a refused manifest, of an accepted one, and of none. Assumes nothing.
+use mathlib.Core.Path.{_≡_, refl, sym, ap, _∙_}
+use mathlib.Core.List.{List, [], _∷_}
+use Prim.Native.Nat.{ℕ}
+use native.Mathlib.Omega.{arith}
+use lib.ListN.{length, replicate}
+use borrow.Author.Tests.{eq-eqb, ne-eqb}
+use Rattle.text.specs.Reading.{Text, pick, peek, count, run}
+use Rattle.text.specs.Class.{skip, classOf, whitespace}
+use Rattle.text.specs.laws.Readers.{pick-true, pick-false}
+use Rattle.places.specs.Places.{firstMember}
+use Rattle.manifest.specs.Rows.{flat}
+use Rattle.manifest.specs.Manifest.{refusalOf}
+use Rattle.outline.specs.declared.Standing.the-variants.{At, Refused}
+use Rattle.outline.specs.Outline.{rootFrom, rootAt}
+use Rattle.index.specs.Index.{indexOf, entriesIn, listed}
+use Rattle.named.specs.Named.{declaredIn, distinctAt, namesIn, nameTable}
+use Rattle.reader.specs.Reader.{indexFrom, tableOf, namesOf}
+
+abbrev pub zeros : List ℕ
+zeros = replicate 2470 0
+
+-- a refusal leaves zeros
+pub refused-zeros : (s : Text) {n : ℕ} → refusalOf s ≡ n → (n ≡ 0 → ⊥) → tableOf s ≡ zeros
+unfolding tableOf
+refused-zeros s e some = pick-false _ _ (ne-eqb (refusalOf s) 0 (λ q. some (sym e ∙ q)))
+
+-- an accepted manifest its index
+pub accepted-index : (s : Text) {v : ℕ} → refusalOf s ≡ 0 → rootAt s ≡ At v → tableOf s ≡ indexOf s v
+unfolding tableOf indexFrom
+accepted-index s e r = pick-true _ _ (eq-eqb (refusalOf s) 0 e) ∙ ap (indexFrom s) r
+
+-- no bytes are no manifest, and leave zeros
+none-rooted : rootAt [] ≡ Refused
+unfolding rootAt rootFrom firstMember skip count run peek classOf whitespace pick
+none-rooted = refl
+
+pub none-accepted : (s : Text) → length s ≡ 0 → refusalOf s ≡ 0
+unfolding refusalOf
+none-accepted s e = pick-true _ _ (eq-eqb (length s) 0 e)
+
+pub none-zeros : (s : Text) → length s ≡ 0 → tableOf s ≡ zeros
+unfolding tableOf indexFrom
+none-zeros [] e = pick-true _ _ (eq-eqb (refusalOf []) 0 (none-accepted [] e)) ∙ ap (indexFrom []) none-rooted
+none-zeros (b ∷ s) e = absurd (omega arith)
+
+-- zeros name no machine
+zeros-unnamed : (s : Text) → nameTable s zeros ≡ replicate 32 0
+unfolding nameTable namesIn declaredIn distinctAt entriesIn listed flat pick
+zeros-unnamed s = refl
+
+pub zeros-names : (s : Text) → tableOf s ≡ zeros → namesOf s ≡ replicate 32 0
+unfolding namesOf
+zeros-names s e = ap (nameTable s) e ∙ zeros-unnamed s

@@ -1,0 +1,127 @@
+// The manifest's reader: refusals 1 to 24 in their order.
+ghost use mathlib.Core.Path.{_≡_};
+ghost use Rattle.manifest.specs.Rules.{first};
+ghost use Rattle.manifest.specs.Manifest.{refusalOf};
+ghost use Rattle.outline.specs.declared.Standing.the-variants.{At};
+ghost use Rattle.outline.specs.Outline.{rootAt};
+ghost use Rattle.index.specs.Index.{manifestOf};
+ghost use Rattle.reader.specs.Reader.{tableOf, namesOf};
+ghost use Rattle.reader.specs.laws.Parts.{later-rules};
+ghost use Rattle.reader.specs.laws.Early.{earlyOf, Document};
+ghost use Rattle.reader.specs.laws.Passed.{Passed};
+ghost use Rattle.reader.specs.laws.Outer.{Judged};
+
+// What 1 to 9 leave: the reading ends with a refusal, or with 0 where there are no bytes; or the manifest object stands at a position.
+pub enum Outer {
+    Ends(u8),
+    Object(usize),
+}
+
+// Refusals 1 to 4 of a text that has bytes; 0 if none applies. Between 3 and 4 the byte that comes first decides.
+fn early(s: &[u8]) -> u8
+    ensures { λ r. ⌜ r ≡ earlyOf (now (s .entry)) ⌝ }
+{
+    if s.len() > 65536 {
+        return 1;
+    }
+    if !outline::opens(s) {
+        return 2;
+    }
+    match json::document(s) {
+        text::Scan::Done(_) => 0,
+        text::Scan::Bad(_) => 3,
+        text::Scan::Deep(_) => 4,
+    }
+}
+
+// Refusals 6 to 9 of the manifest object, which stands at v.
+fn object(s: &[u8], v: usize) -> Outer
+    requires { ⌜ Document (now s) × (rootAt (now s) ≡ At v) ⌝ }
+    ensures { λ r. ⌜ Judged (now (s .entry)) r ⌝ }
+{
+    let version = outline::versions(s, v);
+    if version != 0 {
+        return Outer::Ends(version);
+    }
+    let member = members::judge(s, v);
+    if member != 0 {
+        return Outer::Ends(member);
+    }
+    Outer::Object(v)
+}
+
+// Refusals 1 to 9.
+fn judged(s: &[u8]) -> Outer
+    ensures { λ r. ⌜ Judged (now (s .entry)) r ⌝ }
+{
+    if s.len() == 0 {
+        return Outer::Ends(0);
+    }
+    let refusal = early(s);
+    if refusal != 0 {
+        return Outer::Ends(refusal);
+    }
+    match outline::root(s) {
+        outline::Standing::At(v) => object(s, v),
+        outline::Standing::Refused => Outer::Ends(5),
+    }
+}
+
+// Refusals 10 to 24, judged over the index part after part; 0 if none applies.
+fn later(s: &[u8], ix: &[usize; 2470]) -> u8
+    ensures { λ r. ⌜ r ≡ first later-rules (manifestOf (now (s .entry)) (now (ix .entry))) ⌝ }
+{
+    let size = sizes::refusal(s, ix);
+    if size != 0 {
+        return size;
+    }
+    let twice = once::refusal(s, ix);
+    if twice != 0 {
+        return twice;
+    }
+    let citing = cited::refusal(s, ix);
+    if citing != 0 {
+        return citing;
+    }
+    itself::refusal(s, ix)
+}
+
+// The refusal of the manifest object that has passed 1 to 9, and its index; a refusal leaves zeros.
+fn indexed(s: &[u8], v: usize, ix: &mut [usize; 2470]) -> u8
+    requires { ⌜ Passed (now s) v ⌝ }
+    ensures { λ r. ⌜ (r ≡ refusalOf (now (s .entry))) × (now (ix .exit) ≡ tableOf (now (s .entry))) ⌝ }
+{
+    let zeros: [usize; 2470] = [0; 2470];
+    if index::fill(s, v, ix) {
+        *ix = zeros;
+        return 10;
+    }
+    let rest = later(s, ix);
+    if rest != 0 {
+        *ix = zeros;
+    }
+    rest
+}
+
+// The refusal, and the index; a refusal leaves zeros, and so do no bytes.
+fn table(s: &[u8], ix: &mut [usize; 2470]) -> u8
+    ensures { λ r. ⌜ (r ≡ refusalOf (now (s .entry))) × (now (ix .exit) ≡ tableOf (now (s .entry))) ⌝ }
+{
+    match judged(s) {
+        Outer::Ends(refusal) => {
+            let zeros: [usize; 2470] = [0; 2470];
+            *ix = zeros;
+            refusal
+        }
+        Outer::Object(v) => indexed(s, v, ix),
+    }
+}
+
+// Reads a manifest: its refusal, 0 if it is accepted. The tables are for the questions below; a refusal leaves zeros.
+pub fn read(s: &[u8], ix: &mut [usize; 2470], names: &mut [usize; 32]) -> u8
+    ensures { λ r. ⌜ (r ≡ refusalOf (now (s .entry))) × (now (ix .exit) ≡ tableOf (now (s .entry))) × (now (names .exit) ≡ namesOf (now (s .entry))) ⌝ }
+{
+    let refusal = table(s, ix);
+    named::fill(s, ix, names);
+    refusal
+}

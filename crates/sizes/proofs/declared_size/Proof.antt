@@ -1,0 +1,80 @@
+-- `sizes::declared_size` meets its contract: the name in `machine` is asked first. The loop's invariant: the items from number k on decide.
+-- Assumes nothing.
+use mathlib.Core.Path.{_≡_}
+use Prim.Native.Nat.{_-_}
+use borrow.Author.Needs.{needs}
+use Rattle.manifest.specs.Rules.{outside-of}
+use Rattle.manifest.specs.Rows.{any, declared}
+use Rattle.index.specs.Index.{entryAt}
+use Rattle.sizes.proofs.Declared.{fromItem, declared-first, declared-items, declared-here, declared-on, declared-none}
+use Rattle.sizes.proofs.declared_size.Statement.{statement}
+use Rattle.sizes.proofs.declared_size.Tie as tie
+
+abbrev Inv-loop : tie.InvT-loop
+Inv-loop s ix i machine name n k₀ k = any (outside-of 0 64) (declared (entryAt s ix i)) ≡ fromItem (outside-of 0 64) s ix i k
+
+abbrev μ-loop : tie.MeasureT-loop
+μ-loop s ix i machine name n k₀ k = n - k
+
+col-requires : tie.Need-col-requires Inv-loop μ-loop
+col-requires c κs = search needs
+
+col-requires-2 : tie.Need-col-requires-2 Inv-loop μ-loop
+col-requires-2 c κs = search needs
+
+inside-requires : tie.Need-inside-requires Inv-loop μ-loop
+inside-requires c κs = search needs
+
+size-broken-requires : tie.Need-size-broken-requires Inv-loop μ-loop
+size-broken-requires c κs = search needs
+
+returns : tie.Need-returns Inv-loop μ-loop
+returns c = declared-first (outside-of 0 64) (c .before .before .before .before .before .before .args .s .now) (c .before .before .before .before .before .before .args .ix .now) (c .before .before .before .before .before .before .args .i) (c .before .before .before .before .col .ensures) (c .before .before .before .col2 .ensures) (c .before .before .inside .ensures) (c .before .size-broken .ensures) (c .if1 .taken)
+
+items-requires : tie.Need-items-requires Inv-loop μ-loop
+items-requires c κs = search needs
+
+loop-holds : tie.Need-loop-holds Inv-loop μ-loop
+loop-holds c = declared-items (outside-of 0 64) (c .before .before .before .before .before .before .before .args .s .now) (c .before .before .before .before .before .before .before .args .ix .now) (c .before .before .before .before .before .before .before .args .i) (c .before .before .before .before .before .col .ensures) (c .before .before .before .before .col2 .ensures) (c .before .before .before .inside .ensures) (c .before .before .size-broken .ensures) (c .before .if1 .left)
+
+item-requires : tie.Need-item-requires Inv-loop μ-loop
+item-requires c κs = search needs
+
+size-broken-requires-2 : tie.Need-size-broken-requires-2 Inv-loop μ-loop
+size-broken-requires-2 c κs = search needs
+
+returns-2 : tie.Need-returns-2 Inv-loop μ-loop
+returns-2 c = declared-here (outside-of 0 64) (c .before .before .before .before .before .before .before .before .before .before .before .before .args .s .now) (c .before .before .before .before .before .before .before .before .before .before .before .before .args .ix .now) (c .before .before .before .before .before .before .before .before .before .before .before .before .args .i) (c .before .before .before .before .before .items .ensures) (c .before .before .before .before .loop .inv) (c .before .before .before .loop-test .taken) (c .before .before .item .ensures) (c .before .size-broken2 .ensures) (c .if2 .taken)
+
+add-k : tie.Need-add-k Inv-loop μ-loop
+add-k c = search needs
+
+loop-less : tie.Need-loop-less Inv-loop μ-loop
+loop-less c = search needs
+
+loop-again : tie.Need-loop-again Inv-loop μ-loop
+loop-again c = declared-on (outside-of 0 64) (c .before .before .before .before .before .before .before .before .before .before .before .before .args .s .now) (c .before .before .before .before .before .before .before .before .before .before .before .before .args .ix .now) (c .before .before .before .before .before .before .before .before .before .before .before .before .args .i) (c .before .before .before .before .before .items .ensures) (c .before .before .before .before .loop .inv) (c .before .before .before .loop-test .taken) (c .before .before .item .ensures) (c .before .size-broken2 .ensures) (c .if2 .left)
+
+returns-3 : tie.Need-returns-3 Inv-loop μ-loop
+returns-3 c = declared-none (outside-of 0 64) (c .before .before .before .before .before .before .before .before .before .args .s .now) (c .before .before .before .before .before .before .before .before .before .args .ix .now) (c .before .before .before .before .before .before .before .before .before .args .i) (c .before .before .items .ensures) (c .before .loop .inv) (c .loop-test .left)
+
+pub declared-size-spec : {M : Type 1} → statement M
+declared-size-spec =
+    tie.close
+    (tie.spec
+    Inv-loop
+    μ-loop
+    col-requires
+    col-requires-2
+    inside-requires
+    size-broken-requires
+    returns
+    items-requires
+    loop-holds
+    item-requires
+    size-broken-requires-2
+    returns-2
+    add-k
+    loop-less
+    loop-again
+    returns-3)

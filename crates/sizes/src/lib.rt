@@ -1,0 +1,263 @@
+// Refusals 10 to 13: sizes, clock names, machine with machines, empty names.
+ghost use mathlib.Core.Path.{_≡_};
+ghost use mathlib.Core.Bool.{_||_};
+ghost use lib.Dec.{eqb};
+ghost use Rattle.text.specs.Reading.{pick};
+ghost use Rattle.manifest.specs.View.{one};
+ghost use Rattle.manifest.specs.Rows.{holds, any, declared, cited-files, cited-machines};
+ghost use Rattle.manifest.specs.Rules.{applies, first, no-path, no-name, outside-of, no-clock, is-empty, refusal-10-size, refusal-11-unknown-clock-name, refusal-12-machine-with-machines, refusal-13-empty-machine-name};
+ghost use Rattle.index.specs.Index.{textCell, entryAt, manifestOf};
+ghost use Rattle.sizes.specs.Sizes.{sizes-rules};
+
+// The position p of a value inside the value at another position; none, if there is nothing at that one.
+fn inside(outer: usize, p: usize) -> usize
+    ensures { λ r. ⌜ r ≡ pick (eqb outer 0) 0 p ⌝ }
+{
+    if outer == 0 { 0 } else { p }
+}
+
+// ---- 10: a size is broken
+
+// There is a text at p, and it has fewer bytes than `low` or more than `high`.
+fn size_broken(s: &[u8], p: usize, low: usize, high: usize) -> bool
+    ensures { λ r. ⌜ r ≡ holds (outside-of low high) (textCell (now (s .entry)) p) ⌝ }
+{
+    if p == 0 {
+        return false;
+    }
+    let n = index::length_at(s, p);
+    if n < low {
+        return true;
+    }
+    high < n
+}
+
+// In `trace_time`; an index holds no more entries than may be.
+fn refusal_10_outside(s: &[u8], ix: &[usize; 2470]) -> bool
+    ensures { λ r. ⌜ r ≡ refusal-10-size .outside (manifestOf (now (s .entry)) (now (ix .entry))) ⌝ }
+{
+    let trace = ix[1];
+    let trace_file = inside(trace, ix[3]);
+    let trace_machine = inside(trace, ix[4]);
+    if size_broken(s, trace_file, 1, 255) {
+        return true;
+    }
+    size_broken(s, trace_machine, 1, 64)
+}
+
+// A path or a machine that entry i cites.
+fn cited_size(s: &[u8], ix: &[usize; 2470], i: usize) -> bool
+    ensures { λ r. ⌜ r ≡ (any no-path (cited-files (entryAt (now (s .entry)) (now (ix .entry)) i)) || any no-name (cited-machines (entryAt (now (s .entry)) (now (ix .entry)) i))) ⌝ }
+{
+    let clocks = index::col(ix, i, 4);
+    let sync = inside(clocks, index::col(ix, i, 7));
+    let file = inside(sync, index::col(ix, i, 8));
+    let own_machine = inside(clocks, index::col(ix, i, 6));
+    let machine = inside(sync, index::col(ix, i, 9));
+    if size_broken(s, file, 1, 255) {
+        return true;
+    }
+    if size_broken(s, own_machine, 1, 64) {
+        return true;
+    }
+    size_broken(s, machine, 1, 64)
+}
+
+// A name that entry i declares. (An empty one is refused as 13.)
+fn declared_size(s: &[u8], ix: &[usize; 2470], i: usize) -> bool
+    ensures { λ r. ⌜ r ≡ any (outside-of 0 64) (declared (entryAt (now (s .entry)) (now (ix .entry)) i)) ⌝ }
+{
+    let machine = index::col(ix, i, 1);
+    let name = inside(machine, index::col(ix, i, 2));
+    if size_broken(s, name, 0, 64) {
+        return true;
+    }
+    let n = index::items(ix, i);
+    let mut k: usize = 0;
+    while k < n {
+        let p = index::item(ix, i, k, 1);
+        if size_broken(s, p, 0, 64) {
+            return true;
+        }
+        k += 1;
+    }
+    false
+}
+
+// In entry i; an index holds no more items than may be.
+fn refusal_10_within(s: &[u8], ix: &[usize; 2470], i: usize) -> bool
+    ensures { λ r. ⌜ r ≡ refusal-10-size .within (manifestOf (now (s .entry)) (now (ix .entry))) i (one (entryAt (now (s .entry)) (now (ix .entry)) i)) ⌝ }
+{
+    let path = index::col(ix, i, 0);
+    if size_broken(s, path, 1, 255) {
+        return true;
+    }
+    if cited_size(s, ix, i) {
+        return true;
+    }
+    declared_size(s, ix, i)
+}
+
+fn refusal_10_size(s: &[u8], ix: &[usize; 2470]) -> bool
+    ensures { λ r. ⌜ r ≡ applies refusal-10-size (manifestOf (now (s .entry)) (now (ix .entry))) ⌝ }
+{
+    if refusal_10_outside(s, ix) {
+        return true;
+    }
+    let n = index::entries(ix);
+    let mut i: usize = 0;
+    while i < n {
+        if refusal_10_within(s, ix, i) {
+            return true;
+        }
+        i += 1;
+    }
+    false
+}
+
+// ---- 11: unknown clock name
+
+// There is a text at p, and it is no clock's name.
+fn unknown_clock(s: &[u8], p: usize) -> bool
+    ensures { λ r. ⌜ r ≡ holds no-clock (textCell (now (s .entry)) p) ⌝ }
+{
+    if p == 0 {
+        return false;
+    }
+    let number = outline::domain(s, p);
+    number == 0
+}
+
+// In `trace_time`.
+fn refusal_11_outside(s: &[u8], ix: &[usize; 2470]) -> bool
+    ensures { λ r. ⌜ r ≡ refusal-11-unknown-clock-name .outside (manifestOf (now (s .entry)) (now (ix .entry))) ⌝ }
+{
+    let clock = inside(ix[1], ix[2]);
+    unknown_clock(s, clock)
+}
+
+// In entry i.
+fn refusal_11_within(s: &[u8], ix: &[usize; 2470], i: usize) -> bool
+    ensures { λ r. ⌜ r ≡ refusal-11-unknown-clock-name .within (manifestOf (now (s .entry)) (now (ix .entry))) i (one (entryAt (now (s .entry)) (now (ix .entry)) i)) ⌝ }
+{
+    let clocks = index::col(ix, i, 4);
+    let sync = inside(clocks, index::col(ix, i, 7));
+    let own_clock = inside(clocks, index::col(ix, i, 5));
+    let clock = inside(sync, index::col(ix, i, 10));
+    if unknown_clock(s, own_clock) {
+        return true;
+    }
+    unknown_clock(s, clock)
+}
+
+fn refusal_11_unknown_clock_name(s: &[u8], ix: &[usize; 2470]) -> bool
+    ensures { λ r. ⌜ r ≡ applies refusal-11-unknown-clock-name (manifestOf (now (s .entry)) (now (ix .entry))) ⌝ }
+{
+    if refusal_11_outside(s, ix) {
+        return true;
+    }
+    let n = index::entries(ix);
+    let mut i: usize = 0;
+    while i < n {
+        if refusal_11_within(s, ix, i) {
+            return true;
+        }
+        i += 1;
+    }
+    false
+}
+
+// ---- 12: `machine` with `machines`
+
+// In entry i, whatever the text.
+fn refusal_12_within(s: &[u8], ix: &[usize; 2470], i: usize) -> bool
+    ensures { λ r. ⌜ r ≡ refusal-12-machine-with-machines .within (manifestOf (now (s .entry)) (now (ix .entry))) i (one (entryAt (now (s .entry)) (now (ix .entry)) i)) ⌝ }
+{
+    let machine = index::col(ix, i, 1);
+    if machine == 0 {
+        return false;
+    }
+    let machines = index::col(ix, i, 3);
+    machines != 0
+}
+
+fn refusal_12_machine_with_machines(s: &[u8], ix: &[usize; 2470]) -> bool
+    ensures { λ r. ⌜ r ≡ applies refusal-12-machine-with-machines (manifestOf (now (s .entry)) (now (ix .entry))) ⌝ }
+{
+    let n = index::entries(ix);
+    let mut i: usize = 0;
+    while i < n {
+        if refusal_12_within(s, ix, i) {
+            return true;
+        }
+        i += 1;
+    }
+    false
+}
+
+// ---- 13: empty machine name, in `machine` or `machines`
+
+// There is a text at p, and it is empty.
+fn empty_name(s: &[u8], p: usize) -> bool
+    ensures { λ r. ⌜ r ≡ holds is-empty (textCell (now (s .entry)) p) ⌝ }
+{
+    if p == 0 {
+        return false;
+    }
+    let n = index::length_at(s, p);
+    n == 0
+}
+
+// In entry i.
+fn refusal_13_within(s: &[u8], ix: &[usize; 2470], i: usize) -> bool
+    ensures { λ r. ⌜ r ≡ refusal-13-empty-machine-name .within (manifestOf (now (s .entry)) (now (ix .entry))) i (one (entryAt (now (s .entry)) (now (ix .entry)) i)) ⌝ }
+{
+    let machine = index::col(ix, i, 1);
+    let name = inside(machine, index::col(ix, i, 2));
+    if empty_name(s, name) {
+        return true;
+    }
+    let n = index::items(ix, i);
+    let mut k: usize = 0;
+    while k < n {
+        let p = index::item(ix, i, k, 1);
+        if empty_name(s, p) {
+            return true;
+        }
+        k += 1;
+    }
+    false
+}
+
+fn refusal_13_empty_machine_name(s: &[u8], ix: &[usize; 2470]) -> bool
+    ensures { λ r. ⌜ r ≡ applies refusal-13-empty-machine-name (manifestOf (now (s .entry)) (now (ix .entry))) ⌝ }
+{
+    let n = index::entries(ix);
+    let mut i: usize = 0;
+    while i < n {
+        if refusal_13_within(s, ix, i) {
+            return true;
+        }
+        i += 1;
+    }
+    false
+}
+
+// The number of the first of these rules that applies to the manifest; 0 if none does.
+pub fn refusal(s: &[u8], ix: &[usize; 2470]) -> u8
+    ensures { λ r. ⌜ r ≡ first sizes-rules (manifestOf (now (s .entry)) (now (ix .entry))) ⌝ }
+{
+    if refusal_10_size(s, ix) {
+        return 10;
+    }
+    if refusal_11_unknown_clock_name(s, ix) {
+        return 11;
+    }
+    if refusal_12_machine_with_machines(s, ix) {
+        return 12;
+    }
+    if refusal_13_empty_machine_name(s, ix) {
+        return 13;
+    }
+    0
+}
