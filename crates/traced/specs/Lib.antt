@@ -1,0 +1,2 @@
+-- Trace time and pinned files over the table of what is known.
+pub mod laws
