@@ -9,9 +9,9 @@ import pathlib
 import struct
 import sys
 
-from second import read
-
 HERE = pathlib.Path(__file__).parent
+sys.path.insert(0, str(HERE.parent / 'second'))
+from reader import read  # noqa: E402
 
 
 def listed():

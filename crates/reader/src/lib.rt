@@ -91,13 +91,14 @@ fn indexed(s: &[u8], v: usize, ix: &mut [usize; 2470]) -> u8
     requires { ⌜ Passed (now s) v ⌝ }
     ensures { λ r. ⌜ (r ≡ refusalOf (now (s .entry))) × (now (ix .exit) ≡ tableOf (now (s .entry))) ⌝ }
 {
-    let zeros: [usize; 2470] = [0; 2470];
     if index::fill(s, v, ix) {
+        let zeros: [usize; 2470] = [0; 2470];
         *ix = zeros;
         return 10;
     }
     let rest = later(s, ix);
     if rest != 0 {
+        let zeros: [usize; 2470] = [0; 2470];
         *ix = zeros;
     }
     rest

@@ -1,0 +1,200 @@
+"""The inputs of the timings, the same in every run.
+
+    inputs.py FOLDER          writes NAME.json (absent: no manifest), NAME.bits and the list of names
+    inputs.py table < TIMES   prints the table of the lines that `time inputs` printed
+
+Sheets are written by tests/second/sheet.py.
+"""
+import json
+import math
+import os
+import random
+import sys
+
+sys.path.insert(0, os.path.join(os.path.dirname(os.path.abspath(__file__)), '..', 'tests', 'second'))
+from sheet import End, Event, File, Snapshot, Source, bits_of, packed  # noqa: E402
+
+LONGEST = 65536
+EVENTS = 6900
+REALTIME, REALTIME_COARSE, MONOTONIC, MONOTONIC_COARSE, MONOTONIC_RAW, BOOTTIME = range(1, 7)
+SECOND = 10 ** 9
+# The clocks from an event to trace time.
+WAYS = {1: [MONOTONIC, BOOTTIME], 2: [MONOTONIC, REALTIME, BOOTTIME], 3: [MONOTONIC, REALTIME, REALTIME_COARSE, BOOTTIME]}
+
+
+def sheet(listed, events):
+    """Bytes of the records and of as many of the events as there is room for."""
+    start = ''.join(map(bits_of, listed))
+    room = (8 * LONGEST - 3 - len(start)) // 75
+    return packed(start + ''.join(map(bits_of, events[:room])) + bits_of(End()))
+
+
+# Events.
+
+def readings(r, order, count, span):
+    """Readings within a span, as a recording has them (rising) or as a worst one could (random)."""
+    found = [r.randrange(span) for _ in range(count)]
+    return sorted(found) if order == 'rising' else found
+
+
+def paired(pairs, snapshots, order):
+    """One file whose events go along so many pairs, which share the snapshots."""
+    r = random.Random(f'paired {pairs} {snapshots} {order}')
+    way, span = WAYS[pairs], 3600 * SECOND
+    listed = [File(0, BOOTTIME, b'trace.pftrace'), Source(0, 0)]
+    for number in range(snapshots):
+        step = number % pairs
+        x = number * span // snapshots
+        # A clock gains a little on the next one, in a way that no line describes.
+        listed.append(Snapshot(0, way[step], x, way[step + 1], x + 5 * SECOND + r.randrange(1000)))
+    return b'', sheet(listed, [Event(0, way[0], t) for t in readings(r, order, EVENTS, span)])
+
+
+# Manifests.
+
+def manifest(said):
+    return json.dumps({'perfetto_manifest': said}, separators=(',', ':')).encode()
+
+
+def filled(said, holders, size, text):
+    """The manifest with comments in the holders, as long as `size` bytes."""
+    for holder in holders:
+        holder['comment'] = ''
+    missing = size - len(manifest(said))
+    for number, holder in enumerate(holders):
+        share = missing // len(holders) + (number < missing % len(holders))
+        holder['comment'] = (text * (share // len(text) + 1))[:share]
+    assert len(manifest(said)) == size
+    return manifest(said)
+
+
+PROSE = 'Recorded on the bench beside the window; the watch had been charged overnight, and its clock was set by the phone. '
+
+
+def few_files():
+    """Document 000's example and a relay's file: what a manifest mostly is."""
+    return {'version': 1, 'trace_time': {'clock': 'BOOTTIME', 'file': 'phone.pftrace'}, 'files': [
+        {'path': 'phone.pftrace', 'machine': {'name': 'phone'}},
+        {'path': 'watch.pftrace', 'machine': {'name': 'watch'}},
+        {'path': 'relay.pftrace', 'machines': [{'id': 0, 'name': 'host'}, {'id': 1234, 'name': 'vm'}]},
+        {'path': 'app_log.json', 'clocks': {'sync_to': {'file': 'phone.pftrace', 'clock': 'BOOTTIME'}, 'offset_ns': 250000000}}]}
+
+
+def few_sheet(events):
+    r = random.Random('few')
+    listed = [File(0, BOOTTIME, name) for name in (b'phone.pftrace', b'watch.pftrace', b'relay.pftrace')] + [File(0, 0, b'app_log.json')]
+    listed += [Source(0, 0), Source(1, 0), Source(2, 0), Source(2, 1234), Source(3, 0)]
+    for number in range(8):
+        listed.append(Snapshot(number % 4, MONOTONIC, number * SECOND, BOOTTIME, number * SECOND + 77))
+        listed.append(Snapshot(number % 4, REALTIME, number * SECOND, BOOTTIME, number * SECOND + 777))
+    return sheet(listed, [Event(r.randrange(5), r.choice((0, MONOTONIC, BOOTTIME)), r.randrange(9 * SECOND)) for _ in range(events)])
+
+
+def commented(size):
+    said = few_files()
+    return filled(said, [said, *said['files']], size, PROSE), few_sheet(100)
+
+
+def many_items():
+    """32 entries with 32 items each, which all name the same 31 machines."""
+    files = [{'path': f'device-{i:02}/trace.pftrace', 'machines': [{'id': k, 'name': f'machine-{k % 31:02}'} for k in range(32)]}
+             for i in range(32)]
+    said = {'version': 1, 'files': files}
+    listed = [File(0, BOOTTIME, entry['path'].encode()) for entry in files] + [Source(i, i) for i in range(32)]
+    events = [Event(i, BOOTTIME, SECOND) for i in range(32)]
+    return filled(said, files, LONGEST, PROSE), sheet(listed, events)
+
+
+# The worst that was found.
+
+def chain(first, count):
+    """Files whose machines follow each other, and a sheet's records: all events go through the six clocks of each machine."""
+    r = random.Random(f'chain {first} {count}')
+    entries, files, snapshots = [], [], []
+    for m in range(count):
+        entry = {'path': f'{first + m}'}
+        if m:
+            entry['machine'] = {'name': f'm{m}'}
+        if m < count - 1:
+            entry['clocks'] = {'clock': 'BOOTTIME', 'sync_to': {'file': f'{first + m + 1}', 'clock': 'REALTIME'}, 'offset_ns': 1}
+        entries.append(entry)
+        files.append(File(0, 0 if m < count - 1 else BOOTTIME, entry['path'].encode()))
+    for number in range(256):
+        # One snapshot for each two clocks of a machine, then a second one for as many as there are.
+        at = number % (5 * count)
+        x = r.randrange(SECOND)
+        snapshots.append(Snapshot(at // 5, at % 5 + 1, x, at % 5 + 2, x + r.randrange(3)))
+    sources = [Source(first + m, 0) for m in range(count)]
+    return entries, files, sources + snapshots, [Event(0, REALTIME, r.randrange(SECOND)) for _ in range(EVENTS)]
+
+
+def long_ways():
+    entries, files, rest, events = chain(0, 32)
+    return manifest({'version': 1, 'files': entries}), sheet(files + rest, events)
+
+
+def worst():
+    """Paths of 185 pairs, and all the room in the manifest filled where it is passed over most often."""
+    entries, files, rest, events = chain(1, 31)
+    items = [{'id': k, 'name': 'm1'} for k in range(32)]
+    said = {'version': 1, 'files': [{'path': '0', 'machines': items}, *entries]}
+    items[0] = {'comment': [''], **items[0]}
+    items[0]['comment'] *= (LONGEST - len(manifest(said))) // 3 + 1
+    return manifest(said), sheet([File(0, 0, b'0')] + files + rest, events)
+
+
+INPUTS = {}
+for snapshots in (1, 100, 250):
+    for order in ('rising', 'random'):
+        what = f'one pair, {snapshots} snapshot{"s" * (snapshots > 1)}, {order}'
+        INPUTS[f'pair-{snapshots}-{order}'] = (what, lambda s=snapshots, o=order: paired(1, s, o))
+for pairs, word in ((2, 'two'), (3, 'three')):
+    for order in ('rising', 'random'):
+        INPUTS[f'pairs-{pairs}-{order}'] = (f'{word} pairs, 250 snapshots, {order}', lambda p=pairs, o=order: paired(p, 250, o))
+INPUTS['manifest-1k'] = ('manifest of 1 KiB', lambda: commented(1024))
+INPUTS['manifest-64k'] = ('manifest of 64 KiB, long comments', lambda: commented(LONGEST))
+INPUTS['manifest-items'] = ('manifest of 64 KiB, 32 entries with 32 items', many_items)
+INPUTS['long-ways'] = ('paths of 191 pairs', long_ways)
+INPUTS['worst'] = ('the worst found: paths of 185 pairs, manifest of 64 KiB', worst)
+
+
+def write(folder):
+    os.makedirs(folder, exist_ok=True)
+    for name, (_, make) in INPUTS.items():
+        for ending, content in zip(('json', 'bits'), make()):
+            assert len(content) <= LONGEST
+            if content:
+                with open(os.path.join(folder, f'{name}.{ending}'), 'wb') as file:
+                    file.write(content)
+    with open(os.path.join(folder, 'list'), 'w', encoding='ascii') as file:
+        file.write(''.join(name + '\n' for name in INPUTS))
+
+
+# The table.
+
+def number(x):
+    """Three digits are enough."""
+    return f'{x:.3g}' if x < 1000 else f'{round(x, -int(math.log10(x)) + 2):,.0f}'
+
+
+def cells(name, events, proved, plain):
+    events, proved, plain = int(events), float(proved), float(plain)
+    speeds = [number(events / t * 1e9) if events > 1000 else '' for t in (proved, plain)]
+    return [INPUTS[name][0], f'{events:,}', number(proved / 1000), number(plain / 1000), *speeds, f'{proved / plain:.2f}']
+
+
+def table(lines):
+    rows = [['Input', 'Events', 'Proved, µs', 'Plain, µs', 'Proved, events/s', 'Plain, events/s', 'Ratio']]
+    rows += [cells(*line.split()) for line in lines if len(line.split()) == 4]
+    widths = [max(len(row[i]) for row in rows) for i in range(7)]
+    rows.insert(1, [('-' * width if i == 0 else '-' * (width - 1) + ':') for i, width in enumerate(widths)])
+    for row in rows:
+        padded = [cell.ljust(width) if i == 0 else cell.rjust(width) for i, (cell, width) in enumerate(zip(row, widths))]
+        print('| ' + ' | '.join(padded) + ' |')
+
+
+if __name__ == '__main__':
+    if sys.argv[1] == 'table':
+        table(sys.stdin)
+    else:
+        write(sys.argv[1])

@@ -1,0 +1,6 @@
+-- Laws for the theorems.
+pub mod Shapes
+pub mod Owned
+pub mod Alike
+pub mod Numbered
+pub mod Arrays

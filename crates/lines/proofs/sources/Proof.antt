@@ -1,0 +1,22 @@
+-- `lines::sources` meets its contract: the count is the second number, cut at 32. Assumes nothing.
+use native.Mathlib.Omega.{arith}
+use borrow.Author.Needs.{needs}
+use Rattle.checks.specs.Table.{sourcesHeld}
+use Rattle.lines.proofs.sources.Statement.{statement}
+use Rattle.lines.proofs.sources.Tie as tie
+
+element-copy-out-wide : tie.Need-element-copy-out-wide
+element-copy-out-wide c = search needs
+
+wide-requires : tie.Need-wide-requires
+wide-requires c κs = search needs
+
+at-most-requires : tie.Need-at-most-requires
+at-most-requires c κs = search needs
+
+returns : tie.Need-returns
+unfolding sourcesHeld
+returns c = omega arith
+
+pub sources-spec : {M : Type 1} → statement M
+sources-spec = tie.close (tie.spec element-copy-out-wide wide-requires at-most-requires returns)

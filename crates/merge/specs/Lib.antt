@@ -1,0 +1,3 @@
+-- The merge. In reading order.
+pub mod Memories
+pub mod laws

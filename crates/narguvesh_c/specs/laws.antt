@@ -1,0 +1,2 @@
+-- The counts of an accepted sheet. In reading order.
+pub mod Counts

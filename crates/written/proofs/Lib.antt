@@ -1,0 +1,3 @@
+-- What several functions' proofs share.
+pub mod Digits
+pub mod Parts

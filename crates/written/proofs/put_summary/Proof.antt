@@ -1,0 +1,87 @@
+-- `written::put_summary` meets its contract: the six parts are put one after another, and each has room after those before it.
+-- Assumes nothing.
+use mathlib.Core.Path.{_∙_}
+use native.Mathlib.Omega.{arith}
+use borrow.Author.Needs.{needs}
+use Rattle.written.specs.laws.Put.{put-more, put-length}
+use Rattle.written.specs.laws.Decimal.{decimal-few}
+use Rattle.written.proofs.put_summary.Statement.{statement}
+use Rattle.written.proofs.put_summary.Tie as tie
+
+slice-aggregate-put : tie.Need-slice-aggregate-put
+slice-aggregate-put c = search needs
+
+put-requires : tie.Need-put-requires
+put-requires c κs = search needs
+
+put-decimal-requires : tie.Need-put-decimal-requires
+put-decimal-requires c κs =
+    let s = c .before .before .before .before in
+    let a = c .before .put .ensures in
+    (put-length a ∙ s .pre, omega (arith, decimal-few 2 (s .args .files) (omega (arith, s .fits .files))))
+
+slice-aggregate-put-2 : tie.Need-slice-aggregate-put-2
+slice-aggregate-put-2 c = search needs
+
+put-requires-2 : tie.Need-put-requires-2
+put-requires-2 c κs =
+    let s = c .before .before .before .before .before .before .before in
+    let a = c .before .before .before .before .put .ensures in
+    let b = c .before .before .put-decimal .ensures in
+    (put-length b ∙ (put-length a ∙ s .pre), omega (arith, decimal-few 2 (s .args .files) (omega (arith, s .fits .files))))
+
+put-decimal-requires-2 : tie.Need-put-decimal-requires-2
+put-decimal-requires-2 c κs =
+    let s = c .before .before .before .before .before .before .before .before .before in
+    let a = c .before .before .before .before .before .before .put .ensures in
+    let b = c .before .before .before .before .put-decimal .ensures in
+    let d = c .before .put2 .ensures in
+    (put-length d ∙ (put-length b ∙ (put-length a ∙ s .pre)), omega (arith, decimal-few 2 (s .args .files) (omega (arith, s .fits .files)), decimal-few 2 (s .args .machines) (omega (arith, s .fits .machines))))
+
+slice-aggregate-put-3 : tie.Need-slice-aggregate-put-3
+slice-aggregate-put-3 c = search needs
+
+put-requires-3 : tie.Need-put-requires-3
+put-requires-3 c κs =
+    let s = c .before .before .before .before .before .before .before .before .before .before .before .before in
+    let a = c .before .before .before .before .before .before .before .before .before .put .ensures in
+    let b = c .before .before .before .before .before .before .before .put-decimal .ensures in
+    let d = c .before .before .before .before .put2 .ensures in
+    let e = c .before .before .put-decimal2 .ensures in
+    (put-length e ∙ (put-length d ∙ (put-length b ∙ (put-length a ∙ s .pre))), omega (arith, decimal-few 2 (s .args .files) (omega (arith, s .fits .files)), decimal-few 2 (s .args .machines) (omega (arith, s .fits .machines))))
+
+put-trace-requires : tie.Need-put-trace-requires
+put-trace-requires c κs =
+    let s = c .before .before .before .before .before .before .before .before .before .before .before .before .before .before in
+    let a = c .before .before .before .before .before .before .before .before .before .before .before .put .ensures in
+    let b = c .before .before .before .before .before .before .before .before .before .put-decimal .ensures in
+    let d = c .before .before .before .before .before .before .put2 .ensures in
+    let e = c .before .before .before .before .put-decimal2 .ensures in
+    let f = c .before .put3 .ensures in
+    (put-length f ∙ (put-length e ∙ (put-length d ∙ (put-length b ∙ (put-length a ∙ s .pre)))), omega (arith, decimal-few 2 (s .args .files) (omega (arith, s .fits .files)), decimal-few 2 (s .args .machines) (omega (arith, s .fits .machines))))
+
+returns : tie.Need-returns
+returns c =
+    let s = c .before .before .before .before .before .before .before .before .before .before .before .before .before .before .before in
+    let a = c .before .before .before .before .before .before .before .before .before .before .before .before .put .ensures in
+    let b = c .before .before .before .before .before .before .before .before .before .before .put-decimal .ensures in
+    let d = c .before .before .before .before .before .before .before .put2 .ensures in
+    let e = c .before .before .before .before .before .put-decimal2 .ensures in
+    let f = c .before .before .put3 .ensures in
+    let g = c .put-trace .ensures in
+    (omega (arith, g .0, decimal-few 2 (s .args .files) (omega (arith, s .fits .files)), decimal-few 2 (s .args .machines) (omega (arith, s .fits .machines))), put-more a (put-more b (put-more d (put-more e (put-more f (g .1))))))
+
+pub put-summary-spec : {M : Type 1} → statement M
+put-summary-spec =
+    tie.close
+    (tie.spec
+    slice-aggregate-put
+    put-requires
+    put-decimal-requires
+    slice-aggregate-put-2
+    put-requires-2
+    put-decimal-requires-2
+    slice-aggregate-put-3
+    put-requires-3
+    put-trace-requires
+    returns)
