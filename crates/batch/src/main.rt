@@ -70,19 +70,14 @@ fn frame(buf: &mut [u8]) -> isize {
     body(number(&head), buf)
 }
 
-// Writes the lines of an answer.
-fn write_lines<'a>(
-    answer: merged::Answer,
-    times: &'a [i64],
-    kinds: &'a [u8],
-    steps: &'a [u16],
-    out: &mut [u8],
-) {
-    let n = written::lines(answer, times, kinds, steps, out);
+// Writes the lines of an answer. The memory fits every answer (docs/MEMORY.md).
+fn write_lines<'a>(answer: merged::Answer, times: &'a [i64], kinds: &'a [u8], steps: &'a [u16]) {
+    let mut out = [0u8; 671136];
+    let n = written::lines(answer, times, kinds, steps, &mut out);
     io::write_all(STDOUT_FILENO, &out[..n]);
 }
 
-// Merges and writes the lines and a dot. The lengths fit every input (docs/MEMORY.md).
+// Merges and writes. The lengths fit every input (docs/MEMORY.md).
 fn tell<'a>(manifest: &'a [u8], sheet: &'a [u8]) {
     let mut machines = [0u8; 32];
     let mut times = [0i64; 6990];
@@ -102,9 +97,7 @@ fn tell<'a>(manifest: &'a [u8], sheet: &'a [u8]) {
         &mut readings,
         &mut clocks,
     );
-    let mut out = [0u8; 671136];
-    write_lines(answer, &times, &kinds, &steps, &mut out);
-    io::write_all(STDOUT_FILENO, b".\n");
+    write_lines(answer, &times, &kinds, &steps);
 }
 
 fn cut_off() -> bool {
@@ -112,10 +105,22 @@ fn cut_off() -> bool {
     false
 }
 
+// Reads the sheet of a pair, and writes what it and the manifest give and a dot; whether to go on.
+fn with_sheet(manifest: &[u8]) -> bool {
+    let mut sheet = [0u8; SPACE];
+    let s = frame(&mut sheet);
+    if s < 0 {
+        return cut_off();
+    }
+    let k = io::count(s, &sheet);
+    tell(manifest, &sheet[..k]);
+    io::write_all(STDOUT_FILENO, b".\n");
+    true
+}
+
 // One pair; whether to go on.
 fn pair() -> bool {
     let mut manifest = [0u8; SPACE];
-    let mut sheet = [0u8; SPACE];
     let m = frame(&mut manifest);
     if m == ENDED {
         return false;
@@ -123,14 +128,8 @@ fn pair() -> bool {
     if m < 0 {
         return cut_off();
     }
-    let s = frame(&mut sheet);
-    if s < 0 {
-        return cut_off();
-    }
     let n = io::count(m, &manifest);
-    let k = io::count(s, &sheet);
-    tell(&manifest[..n], &sheet[..k]);
-    true
+    with_sheet(&manifest[..n])
 }
 
 // A proved loop has to end, and nothing says that the input does: the loop counts down from a number that no run uses up.

@@ -1,6 +1,6 @@
 ghost use mathlib.Core.Path.{_≡_};
 ghost use Prim.Native.Nat.{_+_, _*_, _%_, _^_, _<_, _≤_};
-ghost use lib.ListN.{getD};
+ghost use lib.ListN.{length, getD};
 ghost use Rattle.bits.specs.Bits.{number, mayStand, fieldAt, takenAt, readingAt};
 
 // The last position at which a cursor can stand.
@@ -68,8 +68,25 @@ fn span(p: usize, left: usize) -> usize
     if left < room { left } else { room }
 }
 
+// The four bytes from byte i on as one number, the first the most significant.
+fn four(s: &[u8], i: usize) -> u64
+    requires { ⌜ i + 4 ≤ length (now s) ⌝ }
+    ensures { λ r. ⌜ r ≡ number (now (s .entry)) (8 * i) 32 ⌝ }
+{
+    wide(s[i]) * 0x100_0000 + wide(s[i + 1]) * 0x1_0000 + wide(s[i + 2]) * 0x100 + wide(s[i + 3])
+}
+
+// The 64 bits that start r bits into byte i: eight bytes, the first r bits shifted out, and r bits of the ninth.
+fn word(s: &[u8], i: usize, r: usize) -> u64
+    requires { ⌜ (r < 8) × (i + 9 ≤ length (now s)) ⌝ }
+    ensures { λ x. ⌜ x ≡ number (now (s .entry)) (8 * i + r) 64 ⌝ }
+{
+    let v = four(s, i) * 0x1_0000_0000 + four(s, i + 4);
+    (v << r) + (wide(s[i + 8]) >> (8 - r))
+}
+
 // The w bits at position `at` as a number, taken byte by byte.
-fn gather(s: &[u8], at: usize, w: usize) -> u64
+fn by_bytes(s: &[u8], at: usize, w: usize) -> u64
     requires { ⌜ (w ≤ 64) × (at + w < 2 ^ 64) ⌝ }
     ensures { λ r. ⌜ r ≡ number (now (s .entry)) at w ⌝ }
 {
@@ -82,6 +99,20 @@ fn gather(s: &[u8], at: usize, w: usize) -> u64
         k += n;
     }
     v
+}
+
+// The w bits at position `at` as a number: 64 at once where the slice has a ninth byte, since most fields of that width do.
+fn gather(s: &[u8], at: usize, w: usize) -> u64
+    requires { ⌜ (w ≤ 64) × (at + w < 2 ^ 64) ⌝ }
+    ensures { λ r. ⌜ r ≡ number (now (s .entry)) at w ⌝ }
+{
+    let i = at / 8;
+    if w == 64 {
+        if i + 9 <= s.len() {
+            return word(s, i, at % 8);
+        }
+    }
+    by_bytes(s, at, w)
 }
 
 // Whether a number holds `width` bits, and a cursor the position past them.

@@ -4,3 +4,5 @@ pub mod Same
 pub mod Matrix
 pub mod Clear
 pub mod Shape
+pub mod Added
+pub mod Guesses

@@ -1,15 +1,17 @@
 // Correspondences between clocks, and the three graphs that they and the guesses make.
 ghost use mathlib.Core.Path.{_≡_};
 ghost use mathlib.Core.List.{[]};
-ghost use mathlib.Core.Bool.{not, _&&_, _||_, cond};
-ghost use Prim.Native.Nat.{ℕ, _*_, _/_, _%_, _^_, _≤_, _<_};
+ghost use mathlib.Core.Bool.{_&&_, _||_};
+ghost use Prim.Native.Nat.{ℕ, _+_, _*_, _-_, _/_, _%_, _^_, _≤_, _<_};
 ghost use lib.Dec.{ltb, leb, eqb};
 ghost use lib.ListN.{length, replicate};
 ghost use Rattle.numbers.specs.Numbers.{clocks};
 ghost use Rattle.paths.specs.Matrix.{pairOf, distances, nexts};
 ghost use Rattle.graphs.specs.Links.{linksOf, listOf};
-ghost use Rattle.graphs.specs.Graphs.{worldOf, owner, domains, loose, to-trace as toTrace, guess as guessed, some, joined, graphIn};
+ghost use Rattle.graphs.specs.Graphs.{worldOf, guess as guessed, some, joined, graphIn};
 ghost use Rattle.graphs.specs.laws.Matrix.{Holds, Joined, Smaller};
+ghost use Rattle.graphs.specs.laws.Added.{Added};
+ghost use Rattle.graphs.specs.laws.Guesses.{Row, Part, Free};
 
 // A byte for each two clocks.
 const CELLS: usize = numbers::CLOCKS * numbers::CLOCKS;
@@ -40,47 +42,6 @@ fn is_guessed(g: u8, d: u8) -> bool
     d == 1
 }
 
-// Whether these are two machines.
-fn two_machines(m: u8, n: u8, machines: u8) -> bool
-    ensures { λ r. ⌜ r ≡ (not (eqb m n) && ltb m machines && ltb n machines) ⌝ }
-{
-    if m == n {
-        return false;
-    }
-    if m < machines {
-        return n < machines;
-    }
-    false
-}
-
-// Whether graph g joins a domain of a machine to a domain of another.
-fn same_domain(g: u8, machines: u8, d: u8, m: u8, e: u8, n: u8) -> bool
-    ensures { λ r. ⌜ r ≡ (eqb d e && (leb 3 g || eqb d 1) && not (eqb m n) && ltb m machines && ltb n machines) ⌝ }
-{
-    if d == e {
-        if is_guessed(g, d) {
-            return two_machines(m, n, machines);
-        }
-        return false;
-    }
-    false
-}
-
-// The same of any two clocks.
-fn two_domains(g: u8, machines: u8, p: numbers::Owner, q: numbers::Owner) -> bool
-    ensures { λ r. ⌜ r ≡ domains g machines p q ⌝ }
-{
-    match p {
-        numbers::Owner::Domain(d, m) => match q {
-            numbers::Owner::Domain(e, n) => same_domain(g, machines, d, m.0, e, n.0),
-            numbers::Owner::Private(_) => false,
-            numbers::Owner::Nobody => false,
-        },
-        numbers::Owner::Private(_) => false,
-        numbers::Owner::Nobody => false,
-    }
-}
-
 // Whether file f is listed and not pinned.
 fn is_free(files: u8, pinned: u32, f: u8) -> bool
     ensures { λ r. ⌜ r ≡ (ltb f files && eqb (pinned / 2 ^ f % 2) 0) ⌝ }
@@ -92,71 +53,6 @@ fn is_free(files: u8, pinned: u32, f: u8) -> bool
         return true;
     }
     (pinned >> f) % 2 == 0
-}
-
-// Whether a clock is the private clock of such a file.
-fn is_loose(files: u8, pinned: u32, p: numbers::Owner) -> bool
-    ensures { λ r. ⌜ r ≡ loose files pinned p ⌝ }
-{
-    match p {
-        numbers::Owner::Domain(_, _) => false,
-        numbers::Owner::Private(f) => is_free(files, pinned, f.0),
-        numbers::Owner::Nobody => false,
-    }
-}
-
-// Whether c is trace time and d a private clock that is guessed to read the same.
-fn reads_trace(files: u8, pinned: u32, trace: u16, c: u16, d: u16) -> bool
-    ensures { λ r. ⌜ r ≡ (eqb c trace && loose files pinned (owner d) && not (eqb c d)) ⌝ }
-{
-    if c == trace {
-        if is_loose(files, pinned, numbers::owner_of(numbers::Clock(d))) {
-            return c != d;
-        }
-        return false;
-    }
-    false
-}
-
-// Whether graph g guesses that c and d read the same.
-fn guess(g: u8, machines: u8, files: u8, pinned: u32, trace: u16, c: u16, d: u16) -> bool
-    ensures { λ r. ⌜ r ≡ (leb 2 g && (domains g machines (owner c) (owner d) || (leb 3 g && ((eqb c trace && loose files pinned (owner d) && not (eqb c d)) || (eqb d trace && loose files pinned (owner c) && not (eqb d c)))))) ⌝ }
-{
-    if g < 2 {
-        return false;
-    }
-    let p = numbers::owner_of(numbers::Clock(c));
-    let q = numbers::owner_of(numbers::Clock(d));
-    if two_domains(g, machines, p, q) {
-        return true;
-    }
-    if g < 3 {
-        return false;
-    }
-    if reads_trace(files, pinned, trace, c, d) {
-        return true;
-    }
-    reads_trace(files, pinned, trace, d, c)
-}
-
-fn bit(b: bool) -> u8
-    ensures { λ r. ⌜ r ≡ cond b 1 0 ⌝ }
-{
-    if b { 1 } else { 0 }
-}
-
-// Writes the guesses of graph g: a byte for each two clocks.
-fn fill_guesses(g: u8, machines: u8, files: u8, pinned: u32, trace: u16, matrix: &mut [u8])
-    requires { ⌜ length (now matrix) ≡ clocks * clocks ⌝ }
-    ensures { λ _. ⌜ Holds (guessed g (worldOf [] [] [] [] machines files pinned trace)) (now (matrix .exit)) ⌝ }
-{
-    let mut i: usize = 0;
-    while i < CELLS {
-        let c = (i / numbers::CLOCKS) as u16;
-        let d = (i % numbers::CLOCKS) as u16;
-        matrix[i] = bit(guess(g, machines, files, pinned, trace, c, d));
-        i += 1;
-    }
 }
 
 // Joins two clocks, in both directions; what is no clock is left out.
@@ -174,6 +70,98 @@ fn join(matrix: &mut [u8], c: u16, d: u16)
     }
     matrix[e * numbers::CLOCKS + f] = 1;
     matrix[f * numbers::CLOCKS + e] = 1;
+}
+
+// Joins domain d of machine m to that of each machine before it.
+fn join_row(d: u8, m: u8, matrix: &mut [u8])
+    requires { ⌜ (length (now matrix) ≡ clocks * clocks) × (1 ≤ d) × (d ≤ 6) ⌝ }
+    ensures { λ _. ⌜ Added (Row d m m) (now (matrix .entry)) (now (matrix .exit)) ⌝ }
+{
+    let p = numbers::domain_clock(d, numbers::Machine(m));
+    let mut n: u8 = 0;
+    while n < m {
+        let q = numbers::domain_clock(d, numbers::Machine(n));
+        join(matrix, p.0, q.0);
+        n += 1;
+    }
+}
+
+// The same if graph g guesses the domain.
+fn join_domain(g: u8, d: u8, m: u8, matrix: &mut [u8])
+    requires { ⌜ (length (now matrix) ≡ clocks * clocks) × (1 ≤ d) × (d ≤ 6) ⌝ }
+    ensures { λ _. ⌜ Added (Part g (6 * m + d - 1) (6 * m + d)) (now (matrix .entry)) (now (matrix .exit)) ⌝ }
+{
+    if !is_guessed(g, d) {
+        return;
+    }
+    join_row(d, m, matrix);
+}
+
+// The same of each domain.
+fn join_machine(g: u8, m: u8, matrix: &mut [u8])
+    requires { ⌜ length (now matrix) ≡ clocks * clocks ⌝ }
+    ensures { λ _. ⌜ Added (Part g (6 * m) (6 * m + 6)) (now (matrix .entry)) (now (matrix .exit)) ⌝ }
+{
+    let mut d: u8 = 1;
+    while d < 7 {
+        join_domain(g, d, m, matrix);
+        d += 1;
+    }
+}
+
+// The same of each machine.
+fn join_machines(g: u8, machines: u8, matrix: &mut [u8])
+    requires { ⌜ length (now matrix) ≡ clocks * clocks ⌝ }
+    ensures { λ _. ⌜ Added (Part g 0 (6 * machines)) (now (matrix .entry)) (now (matrix .exit)) ⌝ }
+{
+    let mut m: u8 = 0;
+    while m < machines {
+        join_machine(g, m, matrix);
+        m += 1;
+    }
+}
+
+// Joins trace time to the private clock of file f, if the file isn't pinned and its clock is another.
+fn join_file(files: u8, pinned: u32, trace: u16, f: u8, matrix: &mut [u8])
+    requires { ⌜ (length (now matrix) ≡ clocks * clocks) × (f < files) ⌝ }
+    ensures { λ _. ⌜ Added (Free pinned trace f (f + 1)) (now (matrix .entry)) (now (matrix .exit)) ⌝ }
+{
+    if !is_free(files, pinned, f) {
+        return;
+    }
+    let d = numbers::private_clock(numbers::File(f)).0;
+    if d == trace {
+        return;
+    }
+    join(matrix, trace, d);
+}
+
+// The same of each file.
+fn join_files(files: u8, pinned: u32, trace: u16, matrix: &mut [u8])
+    requires { ⌜ length (now matrix) ≡ clocks * clocks ⌝ }
+    ensures { λ _. ⌜ Added (Free pinned trace 0 files) (now (matrix .entry)) (now (matrix .exit)) ⌝ }
+{
+    let mut f: u8 = 0;
+    while f < files {
+        join_file(files, pinned, trace, f, matrix);
+        f += 1;
+    }
+}
+
+// Writes the guesses of graph g, a byte for each two clocks: most are none, so all are cleared and the others joined.
+fn fill_guesses(g: u8, machines: u8, files: u8, pinned: u32, trace: u16, matrix: &mut [u8])
+    requires { ⌜ length (now matrix) ≡ clocks * clocks ⌝ }
+    ensures { λ _. ⌜ Holds (guessed g (worldOf [] [] [] [] machines files pinned trace)) (now (matrix .exit)) ⌝ }
+{
+    clear(matrix);
+    if g < 2 {
+        return;
+    }
+    join_machines(g, machines, matrix);
+    if g < 3 {
+        return;
+    }
+    join_files(files, pinned, trace, matrix);
 }
 
 // Joins the two clocks of each correspondence.

@@ -1,6 +1,6 @@
 -- The texts at positions, where a string stands and where none does. Assumes nothing.
 use mathlib.Core.Path.{_≡_, refl, sym, ap, _∙_}
-use mathlib.Core.Bool.{false}
+use mathlib.Core.Bool.{Bool, true, false, false≢true}
 use mathlib.Core.List.{[], _∷_}
 use Prim.Native.Nat.{ℕ, suc}
 use native.Mathlib.Omega.{arith}
@@ -61,6 +61,15 @@ both-in (done t j) (deep k) h = absurd (h refl)
 both-in (bad j) q h = same-none (textIn q) h
 both-in (deep j) q h = same-none (textIn q) h
 
+-- two strings that are alike are read at both positions
+both-true : (o q : Out Text) → bothText o q ≡ true → true ≡ same (textIn q) (textIn o)
+unfolding bothText textIn isText
+both-true (done t j) (done u k) h = sym h
+both-true (done t j) (bad k) h = absurd (false≢true h)
+both-true (done t j) (deep k) h = absurd (false≢true h)
+both-true (bad j) q h = absurd (false≢true h)
+both-true (deep j) q h = absurd (false≢true h)
+
 module _ (s : Text) (p : ℕ) where
   pub is-empty : (t : Text) {n : ℕ} → length t ≡ 0 → n ≡ lengthAt s p → eqb n 0 ≡ same (textAt s p) t
   is-empty t h e = ap (λ (m : ℕ). eqb m 0) (e ∙ length-is s p) ∙ right-empty (textAt s p) t h
@@ -68,6 +77,10 @@ module _ (s : Text) (p : ℕ) where
   pub is-text : (t : Text) → (length t ≡ 0 → ⊥) → sameAs s p t ≡ same (textAt s p) t
   unfolding sameAs textAt
   is-text t h = text-in (string s p) t h
+
+  pub both-alike : (q : ℕ) {b : Bool} → b ≡ sameTexts s q p → b ≡ true → true ≡ same (textAt s p) (textAt s q)
+  unfolding sameTexts textAt
+  both-alike q e h = both-true (string s q) (string s p) (sym e ∙ h)
 
   module _ (q : ℕ) {n : ℕ} (e : n ≡ lengthAt s p) where
     pub both-empty : {m : ℕ} → n ≡ 0 → m ≡ lengthAt s q → eqb m 0 ≡ same (textAt s p) (textAt s q)

@@ -1,6 +1,6 @@
 -- A value judged by the number of its kind, for the flaw that is looked for; and 8 and 9 as two such searches. Assumes nothing.
 use mathlib.Core.Path.{_≡_, refl, sym, ap, _∙_}
-use mathlib.Core.Bool.{Bool, true, false, not, _||_, true≢false}
+use mathlib.Core.Bool.{Bool, true, false, _||_, true≢false}
 use Prim.Native.Nat.{ℕ, _<_}
 use native.Mathlib.Omega.{arith}
 use borrow.Author.Tests.{eq-eqb, ne-eqb}
@@ -10,7 +10,7 @@ use Rattle.values.specs.Integer.{integer as integerOf}
 use Rattle.manifest.specs.Kinds.{Kind, text, integer, manifest}
 use Rattle.manifest.specs.View.{Cell, absent, wrong, many, one, View, view, asObject, row}
 use Rattle.manifest.specs.Rows.{holds, any}
-use Rattle.manifest.specs.Rules.{Look, missing, mistyped, repeated, fine, look, somewhere, twice, ill, applies, first, refusal-8-known-member-twice, refusal-9-wrong-type-or-absent}
+use Rattle.manifest.specs.Rules.{Look, mistyped, fine, look, somewhere, twice, ill, applies, first, refusal-8-known-member-twice, refusal-9-wrong-type-or-absent}
 use Rattle.manifest.specs.laws.Members.{split-up}
 use Rattle.manifest.specs.laws.Judge.{tag-number, tag, not-an-array, not-an-object, fits, judged, look-is, judged-wrong, judged-object, judged-array}
 use Rattle.manifest.specs.laws.Table.{lines, kindAt}
@@ -34,21 +34,6 @@ mistyped-ill : (b r : Bool) → (sought b r mistyped || false) ≡ b
 unfolding sought
 mistyped-ill true r = refl
 mistyped-ill false r = refl
-
-pub missing-asked : (b r : Bool) → b ≡ true → r ≡ sought b r missing
-unfolding sought
-missing-asked true r e = refl
-missing-asked false r e = absurd (true≢false (sym e))
-
-pub missing-fine : (b r : Bool) → b ≡ false → false ≡ sought b r missing
-unfolding sought
-missing-fine true r e = absurd (true≢false e)
-missing-fine false r e = refl
-
-pub repeated-twice : (b r : Bool) → (sought b r repeated || false) ≡ not b
-unfolding sought
-repeated-twice true r = refl
-repeated-twice false r = refl
 
 -- ---- a value
 

@@ -1,29 +1,29 @@
--- The table by numbers: the columns that the code holds are those of the lines, a member's kind has a smaller number than its object's, and what each of the twelve
--- kinds is. Assumes nothing.
+-- The table by numbers: the columns that the code holds are those of the lines, the lines about one object stand together and have different names, a member's kind has a
+-- smaller number than its object's, and what each of the twelve kinds is. Assumes nothing.
 use mathlib.Core.Path.{_≡_, refl, sym, ap, _∙_}
-use mathlib.Core.Bool.{Bool, true, false, _&&_}
+use mathlib.Core.Bool.{Bool, true, false, not, _&&_, true≢false}
 use mathlib.Core.List.{List, [], _∷_, map}
-use Prim.Native.Nat.{ℕ, zero, suc, _<_}
+use Prim.Native.Nat.{ℕ, zero, suc, _+_, _<_, _≤_}
+use native.Mathlib.Numerals.{add-one}
 use native.Mathlib.Nat.{le-of-suc-le-suc, not-suc-le-zero}
 use native.Mathlib.Omega.{arith}
-use lib.Dec.{eqb, ltb, lit<}
+use lib.Dec.{eqb, ltb, leb, lit<}
 use lib.ListN.{getD, length}
-use borrow.Author.Tests.{ltb-true}
+use borrow.Author.Tests.{ltb-true, leb-true, eqb-true, eq-eqb, ne-eqb, lt-ltb, le-leb, not-false}
 use Rattle.text.specs.Reading.{pick}
+use Rattle.json.specs.Tree.{same}
 use Rattle.manifest.specs.Kinds.{text, integer, array, object}
 use Rattle.manifest.specs.laws.Bools.{two}
 use Rattle.manifest.specs.laws.Judge.{fits}
 use Rattle.manifest.specs.laws.Table.{Line, lines, kindAt, fieldsAt}
-use Rattle.members.specs.laws.Flaw.{no-line, lineAt, wantedOf}
+use Rattle.members.specs.laws.Flaw.{no-line, lineAt, wantedOf, linesBefore, firstLine}
+use Rattle.members.specs.laws.Walked.{some}
+use Rattle.members.proofs.Some.{some-not}
 
 column : (f : Line → ℕ) → f no-line ≡ 0 → (ls : List Line) (j : ℕ) → getD (map f ls) j 0 ≡ f (getD ls j no-line)
 column f z [] j = sym z
 column f z (l ∷ ls) zero = refl
 column f z (l ∷ ls) (suc j) = column f z ls j
-
-pub place-at : (j : ℕ) → getD (map (λ l. l .place) lines) j 0 ≡ lineAt j .place
-unfolding lineAt
-place-at j = column (λ l. l .place) refl lines j
 
 pub kind-at : (j : ℕ) → getD (map (λ l. l .kind) lines) j 0 ≡ lineAt j .kind
 unfolding lineAt
@@ -51,14 +51,83 @@ each-line p [] e j h = absurd (not-suc-le-zero h)
 each-line p (l ∷ ls) e zero h = two (p l) (all-lines p ls) e .0
 each-line p (l ∷ ls) e (suc j) h = each-line p ls (two (p l) (all-lines p ls) e .1) j (le-of-suc-le-suc h)
 
--- a member's kind has a smaller number than its object's; and is one of the twelve
+-- a member's kind has a smaller number than its object's
 pub kind-falls : (j : ℕ) → j < 20 → lineAt j .kind < lineAt j .place
 unfolding lineAt
 kind-falls j h = ltb-true _ _ (each-line (λ l. ltb (l .kind) (l .place)) lines refl j h)
 
-pub kind-small : (j : ℕ) → j < 20 → lineAt j .kind < 12
-unfolding lineAt
-kind-small j h = ltb-true _ _ (each-line (λ l. ltb (l .kind) 12) lines refl j h)
+-- ---- the lines about one object
+
+-- the constant of the code
+abbrev pub starts : List ℕ
+starts = 0 ∷ 0 ∷ 0 ∷ 0 ∷ 3 ∷ 7 ∷ 9 ∷ 10 ∷ 10 ∷ 14 ∷ 14 ∷ 17 ∷ 20 ∷ []
+
+starts-agree : some (λ k. not (eqb (getD starts k 0) (firstLine k))) 13 ≡ false
+unfolding some firstLine linesBefore pick
+starts-agree = refl
+
+pub first-at : {j k : ℕ} → j ≡ k → k < 13 → getD starts j 0 ≡ firstLine k
+first-at {j} {k} e l = ap (λ (i : ℕ). getD starts i 0) e ∙ eqb-true _ _ (not-false _ (some-not (λ n. not (eqb (getD starts n 0) (firstLine n))) 13 k starts-agree l))
+
+starts-few : some (λ k. not (leb (firstLine k) 20)) 13 ≡ false
+unfolding some firstLine linesBefore pick
+starts-few = refl
+
+pub first-few : (k : ℕ) → k < 13 → firstLine k ≤ 20
+first-few k l = leb-true _ _ (not-false _ (some-not (λ n. not (leb (firstLine n) 20)) 13 k starts-few l))
+
+abbrev differ : Bool → Bool → Bool
+differ true b = not b
+differ false b = b
+
+same-then : (a b : Bool) → differ a b ≡ false → a ≡ b
+same-then true true e = refl
+same-then true false e = absurd (true≢false e)
+same-then false true e = absurd (true≢false e)
+same-then false false e = refl
+
+-- line j is among the lines of an object of kind o
+abbrev among : ℕ → ℕ → Bool
+among o j = leb (firstLine o) j && ltb j (firstLine (suc o))
+
+abbrev apart : ℕ → ℕ → Bool
+apart o j = differ (eqb (lineAt j .place) o) (among o j)
+
+together : some (λ o. some (λ j. apart o j) 20) 12 ≡ false
+unfolding some firstLine linesBefore lineAt pick
+together = refl
+
+range : (o j : ℕ) → o < 12 → j < 20 → eqb (lineAt j .place) o ≡ among o j
+range o j ho hj = same-then _ _ (some-not (λ i. apart o i) 20 j (some-not (λ k. some (λ i. apart k i) 20) 12 o together ho) hj)
+
+-- so the lines about an object are those from its first to the first of the next kind
+pub about-there : (o j : ℕ) → o < 12 → firstLine o ≤ j → j < firstLine (o + 1) → lineAt j .place ≡ o
+about-there o j ho h g =
+    let e : firstLine (o + 1) ≡ firstLine (suc o) = ap firstLine (add-one o) in
+    let hj : j < 20 = omega (arith, first-few (o + 1) (omega arith)) in
+    eqb-true _ _ (range o j ho hj ∙ λ i. le-leb (firstLine o) j h i && lt-ltb j (firstLine (suc o)) (omega arith) i)
+
+pub there-about : (o j : ℕ) → o < 12 → j < 20 → lineAt j .place ≡ o → (firstLine o ≤ j) × (j < firstLine (o + 1))
+there-about o j ho hj h =
+    let e : firstLine (o + 1) ≡ firstLine (suc o) = ap firstLine (add-one o) in
+    let w = two (leb (firstLine o) j) (ltb j (firstLine (suc o))) (sym (range o j ho hj) ∙ eq-eqb _ _ h) in
+    let g : j < firstLine (suc o) = ltb-true j (firstLine (suc o)) (w .1) in
+    (leb-true (firstLine o) j (w .0), omega arith)
+
+-- two lines about one object have different names
+abbrev alike : ℕ → ℕ → Bool
+alike i j = not (eqb i j) && (eqb (lineAt i .place) (lineAt j .place) && same (lineAt i .name) (lineAt j .name))
+
+names-once : some (λ i. some (λ j. alike i j) 20) 20 ≡ false
+unfolding some lineAt same pick
+names-once = refl
+
+pub names-differ : (i j : ℕ) → i < 20 → j < 20 → (i ≡ j → ⊥) → lineAt i .place ≡ lineAt j .place → same (lineAt i .name) (lineAt j .name) ≡ false
+names-differ i j hi hj ne e =
+    sym (λ x. not (ne-eqb i j ne x) && (eq-eqb (lineAt i .place) (lineAt j .place) e x && same (lineAt i .name) (lineAt j .name)))
+    ∙ some-not (λ k. alike i k) 20 j (some-not (λ n. some (λ k. alike n k) 20) 20 i names-once hi) hj
+
+-- ---- kinds
 
 -- the kind of the items of an array of a kind
 abbrev pub item-of : ℕ → ℕ

@@ -1,28 +1,25 @@
 // Refusals 8 and 9 over the text of a manifest object, before anything of it is kept: a known member twice in one object; a known member of a
-// wrong JSON type, an item that is no object, or a required member absent. One recursive search serves all seven known objects and both refusals.
+// wrong JSON type, an item that is no object, or a required member absent. One recursive walk serves all seven known objects and both refusals.
 ghost use mathlib.Core.Path.{_≡_};
-ghost use mathlib.Core.Bool.{Bool, true, _||_};
-ghost use mathlib.Core.List.{List, _∷_};
+ghost use mathlib.Core.Bool.{false, _||_};
 ghost use Prim.Native.Nat.{_<_};
 ghost use lib.Dec.{eqb};
+ghost use lib.ListN.{length, getD, set};
 ghost use Rattle.text.specs.Reading.{Text, pick};
-ghost use Rattle.json.specs.Tree.{Tree, num, arr, obj, Trees, Members, items-of};
+ghost use Rattle.text.specs.Strings.{string};
+ghost use Rattle.json.specs.Tree.{Tree, num, no-members};
+ghost use Rattle.json.specs.Document.{many, member, value, most};
 ghost use Rattle.values.specs.Stands.{Stands};
-ghost use Rattle.places.specs.Places.{memberAt};
-ghost use Rattle.manifest.specs.Rows.{any};
-ghost use Rattle.manifest.specs.Rules.{missing};
-ghost use Rattle.manifest.specs.laws.Judge.{tag, judged};
-ghost use Rattle.manifest.specs.laws.Table.{Line, kindAt, lines};
-ghost use Rattle.manifest.specs.laws.Walk.{from};
+ghost use Rattle.values.specs.Strings.{sameAs};
+ghost use Rattle.values.specs.laws.Outs.{Gives};
+ghost use Rattle.places.specs.Places.{inner};
+ghost use Rattle.manifest.specs.laws.Judge.{tag};
 ghost use Rattle.members.specs.Members.{memberRefusalAt};
-ghost use Rattle.members.specs.laws.Flaw.{sought, lineAt, wantedOf};
+ghost use Rattle.members.specs.laws.Flaw.{lineAt, wantedOf, valueKind, firstLine, LineOf};
+ghost use Rattle.members.specs.laws.Walked.{Reads, reached, some, ills, saidIn, Over, Told, ItemsTold, MemberTold, MembersTold};
 
 // The kinds by number: 0 text, 1 integer, 2 any value, 3 `sync_to`, 4 `clocks`, 5 an item of `machines`, 6 `machine`, 7 `machines`, 8 an entry, 9 `files`,
-// 10 `trace_time`, 11 the manifest object. The table of known members has a line for each: the kind of the object that it is a member of.
-const PLACE: [u8; 20] =
-    *b"\x03\x03\x03\x04\x04\x04\x04\x05\x05\x06\x08\x08\x08\x08\x0a\x0a\x0a\x0b\x0b\x0b";
-
-// The kind of its value.
+// 10 `trace_time`, 11 the manifest object. The table of known members has a line for each, those of one object together: the kind of its value.
 const KIND: [u8; 20] =
     *b"\x00\x00\x00\x00\x00\x03\x02\x01\x00\x00\x00\x06\x07\x04\x00\x00\x00\x02\x0a\x09";
 
@@ -30,12 +27,27 @@ const KIND: [u8; 20] =
 const ASKED: [u8; 20] =
     *b"\x00\x00\x00\x00\x00\x00\x00\x01\x01\x01\x01\x00\x00\x00\x01\x00\x00\x00\x00\x00";
 
-// The kind of the object that a line is about.
-fn place(line: usize) -> u8
-    requires { ⌜ line < 20 ⌝ }
-    ensures { λ r. ⌜ r ≡ lineAt line .place ⌝ }
+// The first line about an object of a kind; its lines end where those of the next kind start.
+const FIRST: [usize; 13] = [0, 0, 0, 0, 3, 7, 9, 10, 10, 14, 14, 17, 20];
+
+// What a walk over a value finds: where it ends; a known member twice in one object; and if there is none, one of a wrong type or absent.
+struct Walk {
+    end: usize,
+    twice: bool,
+    ill: bool,
+}
+
+// A member that was walked over: the line about it, and what was found in its value.
+struct Known {
+    line: usize,
+    walk: Walk,
+}
+
+// A number of 8 bits as a place in a table.
+fn wide(x: u8) -> usize
+    ensures { λ r. ⌜ r ≡ x ⌝ }
 {
-    PLACE[line]
+    x as usize
 }
 
 // The kind of the value that a line asks for.
@@ -46,6 +58,13 @@ fn kind(line: usize) -> u8
     KIND[line]
 }
 
+// The kind of the value of a member by its line: a member of which no line tells may have any value.
+fn value_kind(line: usize) -> u8
+    ensures { λ r. ⌜ r ≡ valueKind line ⌝ }
+{
+    if line < 20 { kind(line) } else { 2 }
+}
+
 // Refusal 9 asks for the member.
 fn asked(line: usize) -> bool
     requires { ⌜ line < 20 ⌝ }
@@ -54,33 +73,57 @@ fn asked(line: usize) -> bool
     ASKED[line] == 1
 }
 
-// The members with a line's name of the object at a position.
-fn named(s: &[u8], at: usize, line: usize) -> places::Member
+// The first line about an object of a kind.
+fn first(kind: u8) -> usize
+    requires { ⌜ kind < 13 ⌝ }
+    ensures { λ r. ⌜ r ≡ firstLine kind ⌝ }
+{
+    FIRST[wide(kind)]
+}
+
+// The string at a position is the name of a line.
+fn named(s: &[u8], at: usize, line: usize) -> bool
     requires { ⌜ line < 20 ⌝ }
-    ensures { λ r. ⌜ r ≡ memberAt (now (s .entry)) at (lineAt line .name) ⌝ }
+    ensures { λ r. ⌜ r ≡ sameAs (now (s .entry)) at (lineAt line .name) ⌝ }
 {
     match line {
-        0 => places::member_at(s, at, b"file"),
-        1 => places::member_at(s, at, b"machine"),
-        2 => places::member_at(s, at, b"clock"),
-        3 => places::member_at(s, at, b"clock"),
-        4 => places::member_at(s, at, b"machine"),
-        5 => places::member_at(s, at, b"sync_to"),
-        6 => places::member_at(s, at, b"offset_ns"),
-        7 => places::member_at(s, at, b"id"),
-        8 => places::member_at(s, at, b"name"),
-        9 => places::member_at(s, at, b"name"),
-        10 => places::member_at(s, at, b"path"),
-        11 => places::member_at(s, at, b"machine"),
-        12 => places::member_at(s, at, b"machines"),
-        13 => places::member_at(s, at, b"clocks"),
-        14 => places::member_at(s, at, b"clock"),
-        15 => places::member_at(s, at, b"file"),
-        16 => places::member_at(s, at, b"machine"),
-        17 => places::member_at(s, at, b"version"),
-        18 => places::member_at(s, at, b"trace_time"),
-        _ => places::member_at(s, at, b"files"),
+        0 => values::same_as(s, at, b"file"),
+        1 => values::same_as(s, at, b"machine"),
+        2 => values::same_as(s, at, b"clock"),
+        3 => values::same_as(s, at, b"clock"),
+        4 => values::same_as(s, at, b"machine"),
+        5 => values::same_as(s, at, b"sync_to"),
+        6 => values::same_as(s, at, b"offset_ns"),
+        7 => values::same_as(s, at, b"id"),
+        8 => values::same_as(s, at, b"name"),
+        9 => values::same_as(s, at, b"name"),
+        10 => values::same_as(s, at, b"path"),
+        11 => values::same_as(s, at, b"machine"),
+        12 => values::same_as(s, at, b"machines"),
+        13 => values::same_as(s, at, b"clocks"),
+        14 => values::same_as(s, at, b"clock"),
+        15 => values::same_as(s, at, b"file"),
+        16 => values::same_as(s, at, b"machine"),
+        17 => values::same_as(s, at, b"version"),
+        18 => values::same_as(s, at, b"trace_time"),
+        _ => values::same_as(s, at, b"files"),
     }
+}
+
+// The line about the member whose name stands at a position, of an object of a kind; 20 if the object knows no such name.
+fn line_of(s: &[u8], at: usize, object: u8) -> usize
+    requires { ⌜ object < 12 ⌝ }
+    ensures { λ r. ⌜ Gives (λ k n. LineOf object k r) (string (now (s .entry)) at) ⌝ }
+{
+    let past = first(object + 1);
+    let mut line = first(object);
+    while line < past {
+        if named(s, at, line) {
+            return line;
+        }
+        line += 1;
+    }
+    20
 }
 
 // The JSON type that a value of a kind has, as `tag_at` tells it. Kind 2 takes any.
@@ -133,88 +176,163 @@ fn tag_at(s: &[u8], at: usize) -> u8
     }
 }
 
-// A member that is not there is a flaw for refusal 9, if it is asked for.
-fn lacking(line: usize, ill: bool) -> bool
-    requires { ⌜ line < 20 ⌝ }
-    ensures { λ r. ⌜ r ≡ sought ill (lineAt line .asked) missing ⌝ }
+// One or the other.
+fn either(a: bool, b: bool) -> bool
+    ensures { λ r. ⌜ r ≡ (a || b) ⌝ }
 {
-    if ill { asked(line) } else { false }
+    if a { true } else { b }
 }
 
-// The value at a position, where one of a kind has to stand, has the flaw or holds it: of a wrong type or absent (ill), or else twice.
-// A member's and an item's kind have a smaller number than what they are in, so the search ends.
-fn flawed(s: &[u8], at: usize, kind: u8, ill: bool) -> bool
-    requires { ⌜ kind < 12 ⌝ }
-    ensures { λ r. ⌜ ((asked : Bool) (t : Tree) → Stands (now (s .entry)) at t → r ≡ judged (sought ill) asked (kindAt kind) t) ⌝ }
+// Where a reading ended.
+fn end_of(scan: text::Scan) -> usize
+    ensures { λ r. ⌜ r ≡ reached scan ⌝ }
 {
-    if kind == 2 {
-        return false;
-    }
-    let tag = tag_at(s, at);
-    if tag != wanted(kind) {
-        return ill;
-    }
-    match tag {
-        5 => items_flawed(s, at, item_kind(kind), ill),
-        6 => members_flawed(s, at, kind, ill),
-        _ => false,
+    match scan {
+        text::Scan::Done(j) => j,
+        text::Scan::Bad(p) => p,
+        text::Scan::Deep(p) => p,
     }
 }
 
-// An item of the array at a position, of a kind, has the flaw or holds it.
-fn items_flawed(s: &[u8], at: usize, kind: u8, ill: bool) -> bool
-    requires { ⌜ kind < 12 ⌝ }
-    ensures { λ r. ⌜ ((ts : Trees) → Stands (now (s .entry)) at (arr ts) → r ≡ any (judged (sought ill) true (kindAt kind)) (items-of ts)) ⌝ }
+// A value that is not entered is passed over.
+fn passed(s: &[u8], at: usize, ill: bool) -> Walk
+    ensures { λ r. ⌜ Gives (λ t n. Over r n false ill) (value most (now (s .entry)) at) ⌝ }
 {
-    let mut left = places::size_at(s, at);
-    let mut step = places::first_item(s, at);
-    while 0 < left {
-        match step {
-            places::Step::Item(v, past) => {
-                if flawed(s, v, kind, ill) {
-                    return true;
-                }
-                step = places::next_item(s, past);
-                left -= 1;
-            }
-            places::Step::End => return false,
-        }
+    let end = end_of(json::value(s, at, 16));
+    Walk {
+        end: end,
+        twice: false,
+        ill: ill,
+    }
+}
+
+// The member of a line was seen before; and now it is.
+fn noted(seen: &mut [u8; 20], line: usize) -> bool
+    requires { ⌜ length (now seen) ≡ 20 ⌝ }
+    ensures { λ r. ⌜ (r ≡ eqb (getD (now (seen .entry)) line 0) 1) × (now (seen .exit) ≡ set (now (seen .entry)) line 1) ⌝ }
+{
+    if line < 20 {
+        let before = seen[line];
+        seen[line] = 1;
+        return before == 1;
     }
     false
 }
 
-// What one line says of the object at a position, whose kind is `object`: a member as the line asks for it has the flaw or holds it.
-fn line_flawed(s: &[u8], at: usize, object: u8, line: usize, ill: bool) -> bool
-    requires { ⌜ line < 20 ⌝ }
-    ensures { λ r. ⌜ ((ms : Members) → Stands (now (s .entry)) at (obj ms) → (ls : List Line) → from (sought ill) object ms (lineAt line ∷ ls) ≡ (r || from (sought ill) object ms ls)) ⌝ }
+// A member that refusal 9 asks for in an object of a kind was not seen.
+fn lacking(seen: &[u8; 20], object: u8) -> bool
+    requires { ⌜ object < 12 ⌝ }
+    ensures { λ r. ⌜ r ≡ some (saidIn ills object (now (seen .entry)) no-members) 20 ⌝ }
 {
-    if place(line) != object {
-        return false;
-    }
-    let m = named(s, at, line);
-    let count = m.count;
-    if count == 0 {
-        return lacking(line, ill);
-    }
-    if count == 1 {
-        let v = m.at;
-        return flawed(s, v, kind(line), ill);
-    }
-    !ill
-}
-
-// A known member of the object at a position, whose kind is `object`, has the flaw or holds it: the lines of the table, one after the other.
-fn members_flawed(s: &[u8], at: usize, object: u8, ill: bool) -> bool
-    ensures { λ r. ⌜ ((ms : Members) → Stands (now (s .entry)) at (obj ms) → r ≡ from (sought ill) object ms lines) ⌝ }
-{
-    let mut line: usize = 0;
-    while line < 20 {
-        if line_flawed(s, at, object, line, ill) {
-            return true;
+    let past = first(object + 1);
+    let mut line = first(object);
+    while line < past {
+        if asked(line) {
+            if seen[line] != 1 {
+                return true;
+            }
         }
         line += 1;
     }
     false
+}
+
+// The value at a position, where one of a kind has to stand, is walked over. A member's and an item's kind have a smaller number than what they are in, so the walk ends.
+fn walked(s: &[u8], at: usize, kind: u8) -> Walk
+    requires { ⌜ (kind < 12) × Reads (value most (now s) at) ⌝ }
+    ensures { λ r. ⌜ Gives (Told kind r) (value most (now (s .entry)) at) ⌝ }
+{
+    if kind == 2 {
+        return passed(s, at, false);
+    }
+    let tag = tag_at(s, at);
+    if tag != wanted(kind) {
+        return passed(s, at, true);
+    }
+    match tag {
+        5 => items_walked(s, at + 1, item_kind(kind)),
+        6 => members_walked(s, at + 1, kind),
+        _ => passed(s, at, false),
+    }
+}
+
+// The items of an array, of a kind, from behind its bracket.
+fn items_walked(s: &[u8], at: usize, kind: u8) -> Walk
+    requires { ⌜ (kind < 12) × Reads (many (value inner) 93 (now s) at) ⌝ }
+    ensures { λ r. ⌜ Gives (ItemsTold kind r) (many (value inner) 93 (now (s .entry)) at) ⌝ }
+{
+    let mut i = text::blank(s, at);
+    if text::byte(s, i) == 93 {
+        return Walk {
+            end: i + 1,
+            twice: false,
+            ill: false,
+        };
+    }
+    let mut twice = false;
+    let mut ill = false;
+    loop {
+        let w = walked(s, i, kind);
+        twice = either(twice, w.twice);
+        ill = either(ill, w.ill);
+        let after = text::blank(s, w.end);
+        if text::byte(s, after) != 44 {
+            return Walk {
+                end: after + 1,
+                twice: twice,
+                ill: ill,
+            };
+        }
+        i = text::blank(s, after + 1);
+    }
+}
+
+// A member of an object of a kind, from its name on. The value of an unknown one may be any.
+fn member_walked(s: &[u8], at: usize, object: u8) -> Known
+    requires { ⌜ (2 < object) × (object < 12) × Reads (member (value inner) (now s) at) ⌝ }
+    ensures { λ r. ⌜ Gives (MemberTold object r) (member (value inner) (now (s .entry)) at) ⌝ }
+{
+    let line = line_of(s, at, object);
+    let j = end_of(json::name(s, at));
+    let w = walked(s, text::blank(s, j), value_kind(line));
+    Known {
+        line: line,
+        walk: w,
+    }
+}
+
+// The members of an object of a kind, from behind its brace.
+fn members_walked(s: &[u8], at: usize, object: u8) -> Walk
+    requires { ⌜ (2 < object) × (object < 12) × Reads (many (member (value inner)) 125 (now s) at) ⌝ }
+    ensures { λ r. ⌜ Gives (MembersTold object r) (many (member (value inner)) 125 (now (s .entry)) at) ⌝ }
+{
+    let mut i = text::blank(s, at);
+    let mut seen: [u8; 20] = [0; 20];
+    if text::byte(s, i) == 125 {
+        return Walk {
+            end: i + 1,
+            twice: false,
+            ill: lacking(&seen, object),
+        };
+    }
+    let mut twice = false;
+    let mut ill = false;
+    loop {
+        let m = member_walked(s, i, object);
+        let w = m.walk;
+        let again = noted(&mut seen, m.line);
+        twice = either(twice, either(again, w.twice));
+        ill = either(ill, w.ill);
+        let e = text::blank(s, w.end);
+        if text::byte(s, e) != 44 {
+            return Walk {
+                end: e + 1,
+                twice: twice,
+                ill: either(ill, lacking(&seen, object)),
+            };
+        }
+        i = text::blank(s, e + 1);
+    }
 }
 
 // Refusal 8 or 9 of the manifest object at a position; 0 if neither applies, and where no value stands.
@@ -223,10 +341,11 @@ pub fn judge(s: &[u8], at: usize) -> u8
 {
     match json::value(s, at, 16) {
         text::Scan::Done(_) => {
-            if flawed(s, at, 11, false) {
+            let w = walked(s, at, 11);
+            if w.twice {
                 return 8;
             }
-            if flawed(s, at, 11, true) { 9 } else { 0 }
+            if w.ill { 9 } else { 0 }
         }
         text::Scan::Bad(_) => 0,
         text::Scan::Deep(_) => 0,

@@ -1,7 +1,10 @@
 // The named machines: a table of where the name of each first stands in the text, and the number of a machine by its name.
 ghost use mathlib.Core.Path.{_≡_};
 ghost use Prim.Native.Nat.{_≤_};
+ghost use lib.Dec.{eqb};
 ghost use lib.ListN.{length, take};
+ghost use Rattle.json.specs.Tree.{same};
+ghost use Rattle.index.specs.Index.{textAt};
 ghost use Rattle.named.specs.Named.{place, declaredAt, nameTable, countIn, numberAt};
 ghost use Rattle.named.specs.laws.Texts.{known};
 ghost use Rattle.named.specs.laws.Firsts.{isCalled};
@@ -46,10 +49,11 @@ pub fn number_at(s: &[u8], names: &[usize; 32], p: usize) -> numbers::Machine
     if p == 0 {
         return numbers::Machine(0);
     }
+    let empty = index::length_at(s, p) == 0;
     let table: &[usize] = names;
     let mut k: usize = 0;
     while k < 32 {
-        if is_called(s, p, table[k]) {
+        if is_called(s, p, empty, table[k]) {
             return numbers::Machine((k + 1) as u8);
         }
         k += 1;
@@ -57,14 +61,26 @@ pub fn number_at(s: &[u8], names: &[usize; 32], p: usize) -> numbers::Machine
     numbers::Machine(0)
 }
 
-// A name stands at q, and it is the text at p.
-fn is_called(s: &[u8], p: usize, q: usize) -> bool
+// A name stands at q, and it is the text at p, of which is known whether it is empty.
+fn is_called(s: &[u8], p: usize, empty: bool, q: usize) -> bool
+    requires { ⌜ empty ≡ eqb (length (textAt (now s) p)) 0 ⌝ }
     ensures { λ r. ⌜ r ≡ isCalled (now (s .entry)) p q ⌝ }
 {
     if q == 0 {
         return false;
     }
-    index::same_at(s, p, q)
+    is_text(s, p, empty, q)
+}
+
+// The text at q is the text at p, of which is known whether it is empty: that is asked once for many q, and decides how they are compared.
+fn is_text(s: &[u8], p: usize, empty: bool, q: usize) -> bool
+    requires { ⌜ empty ≡ eqb (length (textAt (now s) p)) 0 ⌝ }
+    ensures { λ r. ⌜ r ≡ same (textAt (now (s .entry)) p) (textAt (now (s .entry)) q) ⌝ }
+{
+    if empty {
+        return index::length_at(s, q) == 0;
+    }
+    values::same_texts(s, q, p)
 }
 
 // The names that entry i declares are added to the n of the table, which then holds as many as are returned.
@@ -117,9 +133,10 @@ fn holds(s: &[u8], p: usize, names: &[usize; 32], n: usize) -> bool
     requires { ⌜ (length (now names) ≡ 32) × (n ≤ 32) ⌝ }
     ensures { λ r. ⌜ r ≡ known (now (s .entry)) p (take n (now (names .entry))) ⌝ }
 {
+    let empty = index::length_at(s, p) == 0;
     let mut k: usize = 0;
     while k < n {
-        if index::same_at(s, p, names[k]) {
+        if is_text(s, p, empty, names[k]) {
             return true;
         }
         k += 1;

@@ -31,15 +31,10 @@ fn read_file(name: &[u8], buf: &mut [u8]) -> isize {
     read_open(fd, name, buf)
 }
 
-// Writes the lines of an answer.
-fn write_lines<'a>(
-    answer: merged::Answer,
-    times: &'a [i64],
-    kinds: &'a [u8],
-    steps: &'a [u16],
-    out: &mut [u8],
-) {
-    let n = written::lines(answer, times, kinds, steps, out);
+// Writes the lines of an answer. The memory fits every answer (docs/MEMORY.md).
+fn write_lines<'a>(answer: merged::Answer, times: &'a [i64], kinds: &'a [u8], steps: &'a [u16]) {
+    let mut out = [0u8; 671136];
+    let n = written::lines(answer, times, kinds, steps, &mut out);
     io::write_all(STDOUT_FILENO, &out[..n]);
 }
 
@@ -63,22 +58,26 @@ fn tell<'a>(manifest: &'a [u8], sheet: &'a [u8]) {
         &mut readings,
         &mut clocks,
     );
-    let mut out = [0u8; 671136];
-    write_lines(answer, &times, &kinds, &steps, &mut out);
+    write_lines(answer, &times, &kinds, &steps);
 }
 
-fn main() {
-    let mut manifest = [0u8; SPACE];
+// Reads the sheet, and tells what it and a manifest give.
+fn with_sheet(manifest: &[u8]) {
     let mut sheet = [0u8; SPACE];
-    let m = read_file(b"manifest.json", &mut manifest);
-    if m < 0 {
-        return;
-    }
     let s = read_file(b"sheet.bits", &mut sheet);
     if s < 0 {
         return;
     }
-    let n = io::count(m, &manifest);
     let k = io::count(s, &sheet);
-    tell(&manifest[..n], &sheet[..k]);
+    tell(manifest, &sheet[..k]);
+}
+
+fn main() {
+    let mut manifest = [0u8; SPACE];
+    let m = read_file(b"manifest.json", &mut manifest);
+    if m < 0 {
+        return;
+    }
+    let n = io::count(m, &manifest);
+    with_sheet(&manifest[..n]);
 }

@@ -1,28 +1,32 @@
--- 15: an entry has the path of an earlier one, or an id twice. Ids that are in range are compared in 64 bits. Assumes nothing.
+-- 15: an entry has the path of an earlier one, or an id twice. Ids that are in range are compared as numbers of a table. Assumes nothing.
 use mathlib.Core.Path.{_≡_, refl, sym, ap, _∙_}
-use mathlib.Core.Bool.{Bool, true, false, _||_, true≢false}
-use mathlib.Core.List.{List, _∷_, _++_}
-use Prim.Native.Nat.{ℕ, zero, suc, _+_, _-_, _≤_, _<_}
+use mathlib.Core.Bool.{Bool, true, false, _||_, true≢false, or-false}
+use mathlib.Core.List.{List, [], _∷_, _++_, append-nil, append-assoc}
+use Prim.Native.Nat.{ℕ, zero, suc, _+_, _*_, _-_, _≤_, _<_, min}
 use native.Mathlib.Omega.{arith}
+use native.Mathlib.Decide.{ℕ-discrete}
+use native.Mathlib.Nat.{min-le-left}
 use lib.Dec.{eqb}
-use lib.ListN.{take}
+use lib.ListN.{length, getD, take, drop, set, length-set, drop-of-length-le}
+use lib.Seq.{drop-cons, getD-take, length-take-le, take-suc-set}
+use lib.Signed.{ltZ, mag}
 use lib.IntN.{ℤ, pos, negsuc}
 use mir.Syntax.{w64}
 use mir.Val.{ofZ, toZ, SFits}
 use mir.Facts.{toZ-ofZ}
-use borrow.Author.Tests.{eq-eqb, eqb-true, eqb-false}
-use Rattle.text.specs.Reading.{Text}
+use borrow.Author.Tests.{eq-eqb, ne-eqb, ltb-false}
+use Rattle.text.specs.Reading.{Text, pick}
 use Rattle.json.specs.Tree.{same}
 use Rattle.values.specs.Integer.{integerAt}
 use Rattle.values.specs.declared.Integer.{Integer}
 use Rattle.values.specs.declared.Integer.the-variants.{In, Below, Above, None}
-use Rattle.manifest.specs.View.{Cell, absent, wrong, many, one}
-use Rattle.manifest.specs.Rows.{Entry, ids, the, holds, any, entries}
+use Rattle.manifest.specs.View.{Cell, one}
+use Rattle.manifest.specs.Rows.{Entry, ids, the, holds, any, flat, entries}
 use Rattle.manifest.specs.Rules.{no-id, same-id, twice-in, has-path, refusal-14-id-out-of-range, refusal-15-path-or-id-twice}
 use Rattle.manifest.specs.laws.Bools.{halves}
 use Rattle.index.specs.Index.{colOf, itemOf, entriesIn, itemsIn, textAt, textCell, idCell, listed, entryBy, entryAt, manifestOf}
 use Rattle.index.specs.laws.Entries.{from, any-past, any-found, any-on, entryCell, entries-are}
-use Rattle.once.specs.laws.Parts.{inEntry, idsFrom, pathBefore}
+use Rattle.once.specs.laws.Parts.{inEntry, idsFrom, pathBefore, idOf, idsIn}
 use Rattle.once.proofs.Cells.{at-none, at-some}
 use Rattle.once.proofs.Ids.{Out-of-64, below, above, id-none, id-in, id-out, id-wrong}
 use Rattle.once.proofs.OutOfRange.{ids-are, ids-past, ids-here, any-the, range-start}
@@ -87,151 +91,226 @@ module _ (s : Text) (ix : List ℕ) (i : ℕ) where
           let z : suc j ≡ j + 1 = omega arith in
           inv ∙ any-on (entryCell s ix) i (has p) j h (is-here ∙ e) ∙ ap (λ (k : ℕ). any (has p) (from (entryCell s ix) i k)) z
 
--- ---- ids
+-- ---- an id as a number
 
-same-true : (y z : ℤ) → same-id z y ≡ true → z ≡ y
-unfolding same-id
-same-true (pos a) (pos b) e = ap pos (eqb-true b a e)
-same-true (pos a) (negsuc b) e = absurd (true≢false (sym e))
-same-true (negsuc a) (pos b) e = absurd (true≢false (sym e))
-same-true (negsuc a) (negsuc b) e = ap negsuc (eqb-true b a e)
+module _ (z : ℤ) (r : no-id z ≡ false) where
+  pub id-bits : SFits w64 z → toZ w64 (ofZ w64 z) ≡ pos (mag z)
+  id-bits f = toZ-ofZ f ∙ go z r
+    where
+      go : (y : ℤ) → no-id y ≡ false → y ≡ pos (mag y)
+      go (pos n) e = refl
+      go (negsuc n) e = absurd (true≢false e)
 
-same-self : (z : ℤ) → same-id z z ≡ true
-unfolding same-id
-same-self (pos a) = eq-eqb a a refl
-same-self (negsuc a) = eq-eqb a a refl
+  pub id-small : mag z ≤ 4294967295
+  id-small = go z r
+    where
+      go : (y : ℤ) → no-id y ≡ false → mag y ≤ 4294967295
+      go (pos n) e = ltb-false 4294967295 n (halves (ltZ (pos n) (pos 0)) _ e .1)
+      go (negsuc n) e = absurd (true≢false e)
 
-differs : (y z : ℤ) → (z ≡ y → ⊥) → same-id z y ≡ false
-differs y z n = go (same-id z y) refl
-  where
-    go : (b : Bool) → same-id z y ≡ b → b ≡ false
-    go true e = absurd (n (same-true y z e))
-    go false e = refl
+  pub id-numbered : idOf (mag z + 1) ≡ z ∷ []
+  unfolding idOf
+  id-numbered = go z r
+    where
+      go : (y : ℤ) → no-id y ≡ false → idOf (mag y + 1) ≡ y ∷ []
+      go (pos n) e = let q : n + 1 ≡ suc n = omega arith in ap idOf q
+      go (negsuc n) e = absurd (true≢false e)
 
--- integers that fit are the same if their bits are
-bits-same : (y z : ℤ) → SFits w64 y → SFits w64 z → eqb (ofZ w64 z) (ofZ w64 y) ≡ same-id z y
-bits-same y z fy fz = go (eqb (ofZ w64 z) (ofZ w64 y)) refl
-  where
-    go : (b : Bool) → eqb (ofZ w64 z) (ofZ w64 y) ≡ b → b ≡ same-id z y
-    go true e =
-        let q : z ≡ y = sym (toZ-ofZ fz) ∙ ap (toZ w64) (eqb-true (ofZ w64 z) (ofZ w64 y) e) ∙ toZ-ofZ fy in
-        sym (ap (same-id z) (sym q) ∙ same-self z)
-    go false e = sym (differs y z (λ q. eqb-false (ofZ w64 z) (ofZ w64 y) e (ap (ofZ w64) q)))
-
--- the id z, in range, stands at p
-module _ (s : Text) (p : ℕ) (z : ℤ) where
-  pub is-absent-id : p ≡ 0 → false ≡ holds (same-id z) (idCell s p)
-  unfolding holds
-  is-absent-id h = sym (ap (holds (same-id z)) (id-none s p h))
-
-  module _ (h : p ≡ 0 → ⊥) {q : Integer} (eq : q ≡ integerAt s p) where
-    pub is-in : {y : ℤ} → q ≡ In y → SFits w64 y → SFits w64 z → eqb (ofZ w64 z) (ofZ w64 y) ≡ holds (same-id z) (idCell s p)
-    unfolding holds
-    is-in {y} e fy fz = bits-same y z fy fz ∙ sym (ap (holds (same-id z)) (id-in s p h eq e))
-
-    is-out : {x : Integer} → no-id z ≡ false → Out-of-64 x → q ≡ x → false ≡ holds (same-id z) (idCell s p)
-    unfolding holds
-    is-out r o e =
-        let (y, f, g) = id-out s p h eq o e in
-        sym (ap (holds (same-id z)) f ∙ differs y z (λ w. true≢false (sym g ∙ ap no-id (sym w) ∙ r)))
-
-    pub is-below : no-id z ≡ false → q ≡ Below → false ≡ holds (same-id z) (idCell s p)
-    is-below r e = is-out r below e
-
-    pub is-above : no-id z ≡ false → q ≡ Above → false ≡ holds (same-id z) (idCell s p)
-    is-above r e = is-out r above e
-
-    pub is-none : q ≡ None → false ≡ holds (same-id z) (idCell s p)
-    unfolding holds
-    is-none e = sym (ap (holds (same-id z)) (id-wrong s p h eq e))
-
--- the id z, read back from its bits, is among the ids l
-module _ (l : List ℤ) {z : ℤ} (f : SFits w64 z) where
-  pub among-ranged : no-id z ≡ false → no-id (toZ w64 (ofZ w64 z)) ≡ false
-  among-ranged r = ap no-id (toZ-ofZ f) ∙ r
-
-  pub among : {b : Bool} → b ≡ any (same-id (toZ w64 (ofZ w64 z))) l → b ≡ any (same-id z) l
-  among e = e ∙ ap (λ (y : ℤ). any (same-id y) l) (toZ-ofZ f)
-
--- the id at p, in range, stands among the ids l
-module _ (s : Text) (p : ℕ) (l : List ℤ) where
-  abbrev again : Cell ℤ → Bool
-  again = holds (λ z. any (same-id z) l)
-
-  pub again-absent : p ≡ 0 → false ≡ again (idCell s p)
-  unfolding holds
-  again-absent h = sym (ap again (id-none s p h))
+-- the id at p, in range
+module _ (s : Text) (p : ℕ) where
+  pub number-absent : p ≡ 0 → idOf 0 ≡ the (idCell s p)
+  unfolding idOf the
+  number-absent h = sym (ap the (id-none s p h))
 
   module _ (r : holds no-id (idCell s p) ≡ false) (h : p ≡ 0 → ⊥) {q : Integer} (eq : q ≡ integerAt s p) where
     module _ {z : ℤ} (e : q ≡ In z) (f : SFits w64 z) where
-      pub again-ranged : no-id (toZ w64 (ofZ w64 z)) ≡ false
+      pub number-ranged : no-id (toZ w64 (ofZ w64 z)) ≡ false
       unfolding holds
-      again-ranged = ap no-id (toZ-ofZ f) ∙ sym (ap (holds no-id) (id-in s p h eq e)) ∙ r
+      number-ranged = ap no-id (toZ-ofZ f) ∙ sym (ap (holds no-id) (id-in s p h eq e)) ∙ r
 
-      pub again-in : {b : Bool} → b ≡ any (same-id (toZ w64 (ofZ w64 z))) l → b ≡ again (idCell s p)
-      unfolding holds
-      again-in g = g ∙ ap (λ (y : ℤ). any (same-id y) l) (toZ-ofZ f) ∙ sym (ap again (id-in s p h eq e))
+      pub number-in : (v : ℕ) → idOf v ≡ toZ w64 (ofZ w64 z) ∷ [] → idOf v ≡ the (idCell s p)
+      unfolding the
+      number-in v g = g ∙ ap (λ (y : ℤ). y ∷ []) (toZ-ofZ f) ∙ sym (ap the (id-in s p h eq e))
 
-    again-out : {x : Integer} → Out-of-64 x → q ≡ x → false ≡ again (idCell s p)
+    number-out : {x : Integer} → Out-of-64 x → q ≡ x → idOf 0 ≡ the (idCell s p)
     unfolding holds
-    again-out o e = let (z, f, g) = id-out s p h eq o e in absurd (true≢false (sym g ∙ sym (ap (holds no-id) f) ∙ r))
+    number-out o e = let (z, f, g) = id-out s p h eq o e in absurd (true≢false (sym g ∙ sym (ap (holds no-id) f) ∙ r))
 
-    pub again-below : q ≡ Below → false ≡ again (idCell s p)
-    again-below e = again-out below e
+    pub number-below : q ≡ Below → idOf 0 ≡ the (idCell s p)
+    number-below e = number-out below e
 
-    pub again-above : q ≡ Above → false ≡ again (idCell s p)
-    again-above e = again-out above e
+    pub number-above : q ≡ Above → idOf 0 ≡ the (idCell s p)
+    number-above e = number-out above e
 
-    pub again-none : q ≡ None → false ≡ again (idCell s p)
-    unfolding holds
-    again-none e = sym (ap again (id-wrong s p h eq e))
+    pub number-none : q ≡ None → idOf 0 ≡ the (idCell s p)
+    unfolding idOf the
+    number-none e = sym (ap the (id-wrong s p h eq e))
 
-twice-the : (c : Cell ℤ) (l : List ℤ) → twice-in (the c ++ l) ≡ (holds (λ z. any (same-id z) l) c || twice-in l)
-unfolding twice-in the holds
-twice-the absent l = refl
-twice-the wrong l = refl
-twice-the (many j) l = refl
-twice-the (one z) l = refl
+-- ---- the ids of entry i, put into a table
 
--- entry i has an id twice, from item k on; all its ids are in range
+flat-more : (l : List ℕ) (v : ℕ) → flat idOf (l ++ v ∷ []) ≡ flat idOf l ++ idOf v
+unfolding flat
+flat-more [] v = append-nil (idOf v)
+flat-more (a ∷ l) v = ap (λ (k : List ℤ). idOf a ++ k) (flat-more l v) ∙ sym (append-assoc (idOf a) (flat idOf l) (idOf v))
+
+few-items : (ix : List ℕ) (i : ℕ) → itemsIn ix i ≤ 32
+unfolding itemsIn pick
+few-items ix i = go (eqb (colOf ix i 3) 0)
+  where
+    go : (b : Bool) → pick b 0 (min 32 (getD ix (6 + (77 * i + 12)) 0)) ≤ 32
+    go true = omega arith
+    go false = min-le-left 32 _
+
+-- the ids of the first k items are in the table, and those that are left are in range
+pub record Reading (s : Text) (ix : List ℕ) (i k : ℕ) (table : List ℕ) : Type 0 where
+  pub long : length table ≡ 32
+  pub so : ids (entryAt s ix i) ≡ flat idOf (take k table) ++ idsFrom s ix i k
+  pub ranged : any no-id (idsFrom s ix i k) ≡ false
+
 module _ (s : Text) (ix : List ℕ) (i : ℕ) where
-  pub twice-start : inEntry refusal-14-id-out-of-range s ix i ≡ false → (twice-in (ids (entryAt s ix i)) ≡ twice-in (idsFrom s ix i 0)) × (any no-id (idsFrom s ix i 0) ≡ false)
-  twice-start e = (ap twice-in (ids-are s ix i), sym (range-start s ix i) ∙ e)
+  pub reading-start : {table : List ℕ} → length table ≡ 32 → inEntry refusal-14-id-out-of-range s ix i ≡ false → Reading s ix i 0 table
+  unfolding flat
+  reading-start l e = record { long = l; so = ids-are s ix i; ranged = sym (range-start s ix i) ∙ e }
 
-  module _ {n : ℕ} (en : n ≡ itemsIn ix i) {k : ℕ} where
-    module _ (ranged : any no-id (idsFrom s ix i k) ≡ false) (h : k < n) where
-      both-ranged : (holds no-id (idCell s (itemOf ix i k 0)) ≡ false) × (any no-id (idsFrom s ix i (suc k)) ≡ false)
-      both-ranged =
-          halves (holds no-id (idCell s (itemOf ix i k 0))) (any no-id (idsFrom s ix i (suc k)))
-          (sym (ap (any no-id) (ids-here s ix i k (omega arith)) ∙ any-the no-id (idCell s (itemOf ix i k 0)) (idsFrom s ix i (suc k))) ∙ ranged)
+  module _ {n : ℕ} (en : n ≡ itemsIn ix i) where
+    pub items-few : n ≤ 32
+    items-few = omega (arith, few-items ix i)
 
-      pub ranged-here : {q : ℕ} → q ≡ itemOf ix i k 0 → holds no-id (idCell s q) ≡ false
-      ranged-here e = ap (λ (x : ℕ). holds no-id (idCell s x)) e ∙ both-ranged .0
+    module _ {k : ℕ} {table : List ℕ} (inv : Reading s ix i k table) where
+      pub reading-done : k ≤ n → n ≤ k → ids (entryAt s ix i) ≡ idsIn table n 0
+      unfolding idsIn
+      reading-done g h =
+          let q : k ≡ n = omega arith in
+          inv .so
+          ∙ ap (λ (l : List ℤ). flat idOf (take k table) ++ l) (ids-past s ix i k (omega arith))
+          ∙ append-nil (flat idOf (take k table))
+          ∙ ap (λ (j : ℕ). flat idOf (take j table)) q
 
-      pub ranged-on : any no-id (idsFrom s ix i (k + 1)) ≡ false
-      ranged-on = let z : k + 1 ≡ suc k = omega arith in ap (λ (j : ℕ). any no-id (idsFrom s ix i j)) z ∙ both-ranged .1
+      module _ (h : k < n) {q : ℕ} (eq : q ≡ itemOf ix i k 0) where
+        both-ranged : (holds no-id (idCell s (itemOf ix i k 0)) ≡ false) × (any no-id (idsFrom s ix i (suc k)) ≡ false)
+        both-ranged =
+            halves (holds no-id (idCell s (itemOf ix i k 0))) (any no-id (idsFrom s ix i (suc k)))
+            (sym (ap (any no-id) (ids-here s ix i k (omega arith)) ∙ any-the no-id (idCell s (itemOf ix i k 0)) (idsFrom s ix i (suc k))) ∙ inv .ranged)
 
-    module _ (inv : twice-in (ids (entryAt s ix i)) ≡ twice-in (idsFrom s ix i k)) where
-      pub twice-past : n ≤ k → false ≡ twice-in (ids (entryAt s ix i))
-      unfolding twice-in
-      twice-past h = sym (inv ∙ ap twice-in (ids-past s ix i k (omega arith)))
+        pub reading-ranged : holds no-id (idCell s q) ≡ false
+        reading-ranged = ap (λ (x : ℕ). holds no-id (idCell s x)) eq ∙ both-ranged .0
 
-      module _ (h : k < n) {q : ℕ} (eq : q ≡ itemOf ix i k 0) {b : Bool} (eb : b ≡ holds (λ z. any (same-id z) (idsFrom s ix i (k + 1))) (idCell s q)) where
-        turned : twice-in (ids (entryAt s ix i)) ≡ (b || twice-in (idsFrom s ix i (k + 1)))
-        turned =
+        pub reading-on : (v : ℕ) → idOf v ≡ the (idCell s q) → Reading s ix i (k + 1) (set table k v)
+        reading-on v e =
             let w : suc k ≡ k + 1 = omega arith in
-            inv ∙ ap twice-in (ids-here s ix i k (omega arith) ∙ ap (λ (j : ℕ). the (idCell s (itemOf ix i k 0)) ++ idsFrom s ix i j) w)
-            ∙ twice-the (idCell s (itemOf ix i k 0)) (idsFrom s ix i (k + 1))
-            ∙ ap (λ (c : Bool). c || twice-in (idsFrom s ix i (k + 1))) (ap (λ (x : ℕ). holds (λ z. any (same-id z) (idsFrom s ix i (k + 1))) (idCell s x)) (sym eq) ∙ sym eb)
+            let m : k < length table = omega (arith, inv .long, few-items ix i) in
+            let new : take (k + 1) (set table k v) ≡ take k table ++ v ∷ [] = ap (λ (j : ℕ). take j (set table k v)) (sym w) ∙ take-suc-set table k v m in
+            let here : the (idCell s (itemOf ix i k 0)) ≡ idOf v = ap (λ (x : ℕ). the (idCell s x)) (sym eq) ∙ sym e in
+            record {
+              long = simp length-set (inv .long);
+              so =
+                  inv .so
+                  ∙ ap (λ (l : List ℤ). flat idOf (take k table) ++ l) (ids-here s ix i k (omega arith) ∙ (λ t. here t ++ idsFrom s ix i (w t)))
+                  ∙ sym (append-assoc (flat idOf (take k table)) (idOf v) (idsFrom s ix i (k + 1)))
+                  ∙ ap (λ (l : List ℤ). l ++ idsFrom s ix i (k + 1)) (sym (flat-more (take k table) v) ∙ ap (flat idOf) (sym new));
+              ranged = ap (λ (j : ℕ). any no-id (idsFrom s ix i j)) (sym w) ∙ both-ranged .1;
+            }
 
-        pub twice-found : b ≡ true → true ≡ twice-in (ids (entryAt s ix i))
-        twice-found e = sym (turned ∙ ap (λ (c : Bool). c || twice-in (idsFrom s ix i (k + 1))) e)
+-- ---- the numbers of a table
 
-        pub twice-on : b ≡ false → twice-in (ids (entryAt s ix i)) ≡ twice-in (idsFrom s ix i (k + 1))
-        twice-on e = turned ∙ ap (λ (c : Bool). c || twice-in (idsFrom s ix i (k + 1))) e
+-- two numbers stand for one id if they are the same
+one-id : (m u : ℕ) → any (same-id (pos m)) (idOf u) ≡ eqb u (suc m)
+unfolding any same-id idOf
+one-id m zero = sym (ne-eqb 0 (suc m) (λ q. omega arith))
+one-id m (suc n) = or-false (eqb m n) ∙ go (ℕ-discrete m n)
+  where
+    go : Dec (m ≡ n) → eqb m n ≡ eqb (suc n) (suc m)
+    go (yes e) = eq-eqb m n e ∙ sym (eq-eqb (suc n) (suc m) (ap suc (sym e)))
+    go (no e) = ne-eqb m n e ∙ sym (ne-eqb (suc n) (suc m) (λ q. e (omega arith)))
 
-  -- ---- 15 in entry i
+or-assoc : (a b c : Bool) → ((a || b) || c) ≡ (a || (b || c))
+or-assoc true b c = refl
+or-assoc false b c = refl
 
+any-append : (p : ℤ → Bool) (l k : List ℤ) → any p (l ++ k) ≡ (any p l || any p k)
+unfolding any
+any-append p [] k = refl
+any-append p (a ∷ l) k = ap (λ (b : Bool). p a || b) (any-append p l k) ∙ sym (or-assoc (p a) (any p l) (any p k))
+
+numbers-of : (m : ℕ) (l : List ℕ) → any (same-id (pos m)) (flat idOf l) ≡ any (λ u. eqb u (suc m)) l
+unfolding any flat
+numbers-of m [] = refl
+numbers-of m (u ∷ l) = any-append (same-id (pos m)) (idOf u) (flat idOf l) ∙ (λ t. one-id m u t || numbers-of m l t)
+
+-- a number that stands for an id, and an id before others
+among-some : (v : ℕ) (l : List ℕ) → (v ≡ 0 → ⊥) → any (λ z. any (same-id z) (flat idOf l)) (idOf v) ≡ any (λ u. eqb u v) l
+unfolding any idOf
+among-some zero l h = absurd (h refl)
+among-some (suc m) l h = or-false _ ∙ numbers-of m l
+
+twice-more : (v : ℕ) (l : List ℤ) → twice-in (idOf v ++ l) ≡ (any (λ z. any (same-id z) l) (idOf v) || twice-in l)
+unfolding twice-in any idOf
+twice-more zero l = refl
+twice-more (suc m) l = ap (λ (b : Bool). b || twice-in l) (sym (or-false (any (same-id (pos m)) l)))
+
+module _ (table : List ℕ) {n : ℕ} (long : length table ≡ 32) (few : n ≤ 32) where
+  its : (k : ℕ) → k < n → drop k (take n table) ≡ getD table k 0 ∷ drop (suc k) (take n table)
+  its k h = drop-cons (take n table) k 0 (omega (arith, length-take-le n table (omega arith))) ∙ ap (λ (v : ℕ). v ∷ drop (suc k) (take n table)) (getD-take n table k 0 h)
+
+  no-more : (k : ℕ) → n ≤ k → drop k (take n table) ≡ []
+  no-more k h = let e : length (take n table) ≤ k = omega (arith, length-take-le n table (omega arith)) in drop-of-length-le (take n table) e
+
+  -- twice, from place k on
+  module _ {k : ℕ} (inv : twice-in (idsIn table n 0) ≡ twice-in (idsIn table n k)) where
+    pub twice-past : n ≤ k → false ≡ twice-in (idsIn table n 0)
+    unfolding idsIn twice-in flat
+    twice-past h = sym (inv ∙ ap (λ (l : List ℕ). twice-in (flat idOf l)) (no-more k h))
+
+    module _ (h : k < n) {b : Bool} (eb : b ≡ any (λ z. any (same-id z) (idsIn table n (k + 1))) (idOf (getD table k 0))) where
+      turned : twice-in (idsIn table n 0) ≡ (b || twice-in (idsIn table n (k + 1)))
+      unfolding idsIn flat
+      turned =
+          let w : suc k ≡ k + 1 = omega arith in
+          inv ∙ ap (λ (l : List ℕ). twice-in (flat idOf l)) (its k h)
+          ∙ ap (λ (j : ℕ). twice-in (idOf (getD table k 0) ++ flat idOf (drop j (take n table)))) w
+          ∙ twice-more (getD table k 0) (flat idOf (drop (k + 1) (take n table)))
+          ∙ ap (λ (c : Bool). c || twice-in (flat idOf (drop (k + 1) (take n table)))) (sym eb)
+
+      pub twice-found : b ≡ true → true ≡ twice-in (idsIn table n 0)
+      twice-found e = sym (turned ∙ ap (λ (c : Bool). c || twice-in (idsIn table n (k + 1))) e)
+
+      pub twice-on : b ≡ false → twice-in (idsIn table n 0) ≡ twice-in (idsIn table n (k + 1))
+      twice-on e = turned ∙ ap (λ (c : Bool). c || twice-in (idsIn table n (k + 1))) e
+
+  -- the number v among those from place k on
+  module _ (v : ℕ) where
+    -- it is one of them
+    abbrev pub numberFrom : ℕ → Bool
+    numberFrom k = any (λ u. eqb u v) (drop k (take n table))
+
+    pub among-none : (from : ℕ) → v ≡ 0 → false ≡ any (λ z. any (same-id z) (idsIn table n from)) (idOf v)
+    unfolding any idOf
+    among-none from h = sym (ap (λ (u : ℕ). any (λ z. any (same-id z) (idsIn table n from)) (idOf u)) h)
+
+    pub among-start : (from : ℕ) → (v ≡ 0 → ⊥) → any (λ z. any (same-id z) (idsIn table n from)) (idOf v) ≡ numberFrom from
+    unfolding idsIn
+    among-start from h = among-some v (drop from (take n table)) h
+
+    module _ {k : ℕ} {t : Bool} (inv : t ≡ numberFrom k) where
+      pub among-past : n ≤ k → false ≡ t
+      unfolding any
+      among-past h = sym (inv ∙ ap (any (λ u. eqb u v)) (no-more k h))
+
+      pub among-found : k < n → getD table k 0 ≡ v → true ≡ t
+      unfolding any
+      among-found h e = sym (inv ∙ ap (any (λ u. eqb u v)) (its k h) ∙ ap (λ (b : Bool). b || numberFrom (suc k)) (eq-eqb (getD table k 0) v e))
+
+      pub among-on : k < n → (getD table k 0 ≡ v → ⊥) → t ≡ numberFrom (k + 1)
+      unfolding any
+      among-on h e =
+          let w : suc k ≡ k + 1 = omega arith in
+          inv ∙ ap (any (λ u. eqb u v)) (its k h)
+          ∙ ap (λ (b : Bool). b || numberFrom (suc k)) (ne-eqb (getD table k 0) v e)
+          ∙ ap numberFrom w
+
+-- ---- 15 in entry i
+
+module _ (s : Text) (ix : List ℕ) (i : ℕ) where
   module _ {a : Bool} (ea : a ≡ pathBefore s ix i) where
     pub entry-path : a ≡ true → true ≡ inEntry refusal-15-path-or-id-twice s ix i
     unfolding refusal-15-path-or-id-twice holds pathBefore

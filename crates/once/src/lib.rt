@@ -1,13 +1,15 @@
 // Refusals 14 to 18: ids, what stands twice, and members that ask for others.
 ghost use mathlib.Core.Path.{_≡_};
 ghost use mathlib.Core.Bool.{false};
-ghost use Prim.Native.Nat.{_<_};
+ghost use mathlib.Core.List.{[], _∷_};
+ghost use Prim.Native.Nat.{_≤_, _<_};
+ghost use lib.ListN.{length};
 ghost use Rattle.json.specs.Tree.{same};
-ghost use Rattle.manifest.specs.Rows.{holds, any, ids};
+ghost use Rattle.manifest.specs.Rows.{the, holds, any, ids};
 ghost use Rattle.manifest.specs.Rules.{applies, first, no-id, same-id, twice-in, refusal-14-id-out-of-range, refusal-15-path-or-id-twice, refusal-16-clocks-without-sync-to, refusal-17-machine-without-file, refusal-18-sync-to-without-file};
 ghost use Rattle.index.specs.Index.{entriesIn, textAt, textCell, idCell, entryAt, manifestOf};
 ghost use Rattle.once.specs.Once.{once-rules};
-ghost use Rattle.once.specs.laws.Parts.{inEntry, idsFrom, pathBefore};
+ghost use Rattle.once.specs.laws.Parts.{inEntry, pathBefore, idOf, idsIn};
 
 // The number of the first of these rules that applies to the manifest; 0 if none does.
 pub fn refusal(s: &[u8], ix: &[usize; 2470]) -> u8
@@ -136,15 +138,62 @@ fn same_path(s: &[u8], p: usize, q: usize) -> bool
     index::same_at(s, p, q)
 }
 
-// Entry i has an id twice.
+// Entry i has an id twice. Each id is read once, and they are compared as numbers of a table.
 fn id_twice(s: &[u8], ix: &[usize; 2470], i: usize) -> bool
     requires { ⌜ inEntry refusal-14-id-out-of-range (now s) (now ix) i ≡ false ⌝ }
     ensures { λ r. ⌜ r ≡ twice-in (ids (entryAt (now (s .entry)) (now (ix .entry)) i)) ⌝ }
 {
+    let mut table: [u64; 32] = [0; 32];
+    let n = read_ids(s, ix, i, &mut table);
+    number_twice(&table, n)
+}
+
+// The ids of entry i as the first numbers of a table, as many as are returned.
+fn read_ids(s: &[u8], ix: &[usize; 2470], i: usize, table: &mut [u64; 32]) -> usize
+    requires { ⌜ (length (now table) ≡ 32) × (inEntry refusal-14-id-out-of-range (now s) (now ix) i ≡ false) ⌝ }
+    ensures { λ r. ⌜ (r ≤ 32) × (length (now (table .exit)) ≡ 32) × (ids (entryAt (now (s .entry)) (now (ix .entry)) i) ≡ idsIn (now (table .exit)) r 0) ⌝ }
+{
     let n = index::items(ix, i);
     let mut k: usize = 0;
     while k < n {
-        if id_again(s, ix, i, index::item(ix, i, k, 0), k + 1) {
+        table[k] = id_number(s, index::item(ix, i, k, 0));
+        k += 1;
+    }
+    n
+}
+
+// The id at a position as a number; 0 where there is none.
+fn id_number(s: &[u8], p: usize) -> u64
+    requires { ⌜ holds no-id (idCell (now s) p) ≡ false ⌝ }
+    ensures { λ r. ⌜ idOf r ≡ the (idCell (now (s .entry)) p) ⌝ }
+{
+    if p == 0 {
+        return 0;
+    }
+    match values::integer_at(s, p) {
+        values::Integer::In(z) => one_more(z),
+        values::Integer::Below => 0,
+        values::Integer::Above => 0,
+        values::Integer::None => 0,
+    }
+}
+
+// One more than an id, since 0 stands for none.
+fn one_more(z: i64) -> u64
+    requires { ⌜ no-id z ≡ false ⌝ }
+    ensures { λ r. ⌜ idOf r ≡ z ∷ [] ⌝ }
+{
+    z as u64 + 1
+}
+
+// Two of the first n numbers of a table stand for one id.
+fn number_twice(table: &[u64; 32], n: usize) -> bool
+    requires { ⌜ (length (now table) ≡ 32) × (n ≤ 32) ⌝ }
+    ensures { λ r. ⌜ r ≡ twice-in (idsIn (now (table .entry)) n 0) ⌝ }
+{
+    let mut k: usize = 0;
+    while k < n {
+        if number_among(table, n, table[k], k + 1) {
             return true;
         }
         k += 1;
@@ -152,52 +201,22 @@ fn id_twice(s: &[u8], ix: &[usize; 2470], i: usize) -> bool
     false
 }
 
-// An id stands at p, and some item of entry i has it, from an item on.
-fn id_again(s: &[u8], ix: &[usize; 2470], i: usize, p: usize, from: usize) -> bool
-    requires { ⌜ holds no-id (idCell (now s) p) ≡ false ⌝ }
-    ensures { λ r. ⌜ r ≡ holds (λ z. any (same-id z) (idsFrom (now (s .entry)) (now (ix .entry)) i from)) (idCell (now (s .entry)) p) ⌝ }
+// The number v stands for an id, and so does one of the first n numbers of a table, from a place on.
+fn number_among(table: &[u64; 32], n: usize, v: u64, from: usize) -> bool
+    requires { ⌜ (length (now table) ≡ 32) × (n ≤ 32) ⌝ }
+    ensures { λ r. ⌜ r ≡ any (λ z. any (same-id z) (idsIn (now (table .entry)) n from)) (idOf v) ⌝ }
 {
-    if p == 0 {
+    if v == 0 {
         return false;
     }
-    match values::integer_at(s, p) {
-        values::Integer::In(z) => id_among(s, ix, i, z, from),
-        values::Integer::Below => false,
-        values::Integer::Above => false,
-        values::Integer::None => false,
-    }
-}
-
-// Some item of entry i has the id z, from an item on.
-fn id_among(s: &[u8], ix: &[usize; 2470], i: usize, z: i64, from: usize) -> bool
-    requires { ⌜ no-id z ≡ false ⌝ }
-    ensures { λ r. ⌜ r ≡ any (same-id z) (idsFrom (now (s .entry)) (now (ix .entry)) i from) ⌝ }
-{
-    let n = index::items(ix, i);
     let mut k = from;
     while k < n {
-        if is_id(s, index::item(ix, i, k, 0), z) {
+        if table[k] == v {
             return true;
         }
         k += 1;
     }
     false
-}
-
-// The id z stands at a position.
-fn is_id(s: &[u8], p: usize, z: i64) -> bool
-    requires { ⌜ no-id z ≡ false ⌝ }
-    ensures { λ r. ⌜ r ≡ holds (same-id z) (idCell (now (s .entry)) p) ⌝ }
-{
-    if p == 0 {
-        return false;
-    }
-    match values::integer_at(s, p) {
-        values::Integer::In(y) => z == y,
-        values::Integer::Below => false,
-        values::Integer::Above => false,
-        values::Integer::None => false,
-    }
 }
 
 // ---- 16

@@ -91,28 +91,33 @@ unfolding is-1
 one-bits (pos n) f = refl
 one-bits (negsuc n) f = let l : n < 2 ^ 63 = f .sfits in ne-eqb (2 ^ 64 - suc n) 1 (λ q. omega arith)
 
--- `wrong_version`: r says whether the name is `version`, q is the integer at v
+-- `not_one_at`: q is the integer at v
+module _ (s : Text) (v : ℕ) {q : Integer} (eq : q ≡ integerAt s v) where
+  found : not (is-1 q) ≡ not-1-at s v
+  unfolding not-1-at
+  found = ap (λ (x : Integer). not (is-1 x)) eq
+
+  pub not-one-in : {z : ℤ} → q ≡ In z → SFits w64 z → not (eqb (ofZ w64 z) 1) ≡ not-1-at s v
+  not-one-in {z} g f = ap not (one-bits z f) ∙ sym (ap (λ (x : Integer). not (is-1 x)) g) ∙ found
+
+  pub not-one-below : q ≡ Below → true ≡ not-1-at s v
+  unfolding is-1
+  not-one-below g = sym (ap (λ (x : Integer). not (is-1 x)) g) ∙ found
+
+  pub not-one-above : q ≡ Above → true ≡ not-1-at s v
+  unfolding is-1
+  not-one-above g = sym (ap (λ (x : Integer). not (is-1 x)) g) ∙ found
+
+  pub not-one-none : q ≡ None → true ≡ not-1-at s v
+  unfolding is-1
+  not-one-none g = sym (ap (λ (x : Integer). not (is-1 x)) g) ∙ found
+
+-- `wrong_version`: r says whether the name is `version`, q whether the value at v isn't 1
 module _ (s : Text) (i v : ℕ) {r : Bool} (er : r ≡ sameAs s i (bytes "version")) where
   pub wrong-name : r ≡ false → false ≡ misnumbered s i v
   unfolding misnumbered
   wrong-name h = sym (ap (λ (b : Bool). b && not-1-at s v) (sym er ∙ h))
 
-  module _ (h : r ≡ true) {q : Integer} (eq : q ≡ integerAt s v) where
-    found : not (is-1 q) ≡ misnumbered s i v
-    unfolding misnumbered not-1-at
-    found = ap (λ (x : Integer). not (is-1 x)) eq ∙ sym (ap (λ (b : Bool). b && not-1-at s v) (sym er ∙ h))
-
-    pub wrong-in : {z : ℤ} → q ≡ In z → SFits w64 z → not (eqb (ofZ w64 z) 1) ≡ misnumbered s i v
-    wrong-in {z} g f = ap not (one-bits z f) ∙ sym (ap (λ (x : Integer). not (is-1 x)) g) ∙ found
-
-    pub wrong-below : q ≡ Below → true ≡ misnumbered s i v
-    unfolding is-1
-    wrong-below g = sym (ap (λ (x : Integer). not (is-1 x)) g) ∙ found
-
-    pub wrong-above : q ≡ Above → true ≡ misnumbered s i v
-    unfolding is-1
-    wrong-above g = sym (ap (λ (x : Integer). not (is-1 x)) g) ∙ found
-
-    pub wrong-none : q ≡ None → true ≡ misnumbered s i v
-    unfolding is-1
-    wrong-none g = sym (ap (λ (x : Integer). not (is-1 x)) g) ∙ found
+  pub wrong-value : r ≡ true → {q : Bool} → q ≡ not-1-at s v → q ≡ misnumbered s i v
+  unfolding misnumbered
+  wrong-value h eq = eq ∙ sym (ap (λ (b : Bool). b && not-1-at s v) (sym er ∙ h))

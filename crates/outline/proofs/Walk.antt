@@ -16,6 +16,7 @@ use Rattle.json.specs.Tree.{same}
 use Rattle.json.specs.Document.{value, name, many}
 use Rattle.json.specs.laws.Forward.{value-forward, name-forward}
 use Rattle.values.specs.Strings.{isText, sameAs}
+use Rattle.places.specs.declared.Member.{Member}
 use Rattle.places.specs.declared.Entry.{Entry}
 use Rattle.places.specs.declared.Entry.the-variants.{Named, Last}
 use Rattle.places.specs.Places.{inner, member-place, listed, membersAt, placesOf, counted, memberAt, entryOf, entryFrom, firstMember, nextMember}
@@ -135,6 +136,12 @@ counted-none [] e h = refl
 counted-none (v ∷ []) e h = absurd (omega arith)
 counted-none (v ∷ (w ∷ vs)) e h = absurd (omega arith)
 
+counted-one : (ps : List ℕ) {m : Member} → m ≡ counted ps → m .count ≡ 1 → ps ≡ m .at ∷ []
+unfolding counted
+counted-one [] e h = absurd (omega (arith, ap (λ (x : Member). x .count) e))
+counted-one (v ∷ []) e h = ap (λ (x : ℕ). x ∷ []) (sym (ap (λ (x : Member). x .at) e))
+counted-one (v ∷ (w ∷ vs)) e h = absurd (omega (arith, ap (λ (x : Member). x .count) e))
+
 -- members with a name are members that were read
 members-read : (s : Text) (p : ℕ) {v : ℕ} {vs : List ℕ} → placesOf its (membersAt s p) ≡ v ∷ vs → Passes s (firstMember s p) (membersAt s p)
 unfolding membersAt placesOf pick listed
@@ -161,6 +168,22 @@ module _ (s : Text) (p : ℕ) {n : ℕ} (en : n ≡ memberAt s p its .count) whe
         same-left = ap (versionsBy s) (w .2) ∙ ap (λ (vs : List ℕ). pick (any (not-1-at s) vs) 7 0) (sym (w .2));
         onward = λ i v j g. first-forward s p (sym f ∙ g);
       }
+
+-- one version, found with its place, decides alone: b says whether it isn't 1
+module _ (s : Text) (p : ℕ) {m : Member} (em : m ≡ memberAt s p its) (h : m .count ≡ 1) {b : Bool} (eb : b ≡ not-1-at s (m .at)) where
+  by-one : versionsAt s p ≡ pick (b || false) 7 0
+  unfolding memberAt versionsAt versionPlaces versionsBy any
+  by-one =
+      ap (versionsBy s) (counted-one (placesOf its (membersAt s p)) em h)
+      ∙ ap (λ (x : Bool). pick (x || false) 7 0) (sym eb)
+
+  pub one-wrong : b ≡ true → 7 ≡ versionsAt s p
+  unfolding pick
+  one-wrong g = sym (by-one ∙ ap (λ (x : Bool). pick (x || false) 7 0) g)
+
+  pub one-right : b ≡ false → 0 ≡ versionsAt s p
+  unfolding pick
+  one-right g = sym (by-one ∙ ap (λ (x : Bool). pick (x || false) 7 0) g)
 
 module _ (s : Text) (p : ℕ) (e : Entry) (l : Walking s p e) where
   pub walk-end : e ≡ Last → 0 ≡ versionsAt s p

@@ -3,7 +3,7 @@
 ghost use mathlib.Core.Path.{_≡_};
 ghost use Rattle.places.specs.Places.{nextMember};
 ghost use Rattle.manifest.specs.Manifest.{starts};
-ghost use Rattle.outline.specs.Outline.{alone as aloneOf, rootAt, versionsAt, domainAt};
+ghost use Rattle.outline.specs.Outline.{alone as aloneOf, rootAt, not-1-at, versionsAt, domainAt};
 ghost use Rattle.outline.specs.laws.Versions.{misnumbered};
 ghost use Rattle.outline.specs.laws.Names.{names as allNames};
 
@@ -53,13 +53,10 @@ pub fn root(s: &[u8]) -> Standing
     }
 }
 
-// The member whose name starts at a position and whose value starts at v is a version that isn't the integer 1.
-fn wrong_version(s: &[u8], at: usize, v: usize) -> bool
-    ensures { λ r. ⌜ r ≡ misnumbered (now (s .entry)) at v ⌝ }
+// The value at v isn't the integer 1.
+fn not_one_at(s: &[u8], v: usize) -> bool
+    ensures { λ r. ⌜ r ≡ not-1-at (now (s .entry)) v ⌝ }
 {
-    if !values::same_as(s, at, b"version") {
-        return false;
-    }
     match values::integer_at(s, v) {
         values::Integer::In(n) => n != 1,
         values::Integer::Below => true,
@@ -68,13 +65,30 @@ fn wrong_version(s: &[u8], at: usize, v: usize) -> bool
     }
 }
 
+// The member whose name starts at a position and whose value starts at v is a version that isn't the integer 1.
+fn wrong_version(s: &[u8], at: usize, v: usize) -> bool
+    ensures { λ r. ⌜ r ≡ misnumbered (now (s .entry)) at v ⌝ }
+{
+    if !values::same_as(s, at, b"version") {
+        return false;
+    }
+    not_one_at(s, v)
+}
+
 // 6 if the object at a position has no version, 7 if one of its versions isn't the integer 1, else 0: all of them are looked at.
+// The one version of most manifests was found with its place, so they are gone through but once.
 pub fn versions(s: &[u8], at: usize) -> u8
     ensures { λ r. ⌜ r ≡ versionsAt (now (s .entry)) at ⌝ }
 {
     let found = places::member_at(s, at, b"version");
     if found.count == 0 {
         return 6;
+    }
+    if found.count == 1 {
+        if not_one_at(s, found.at) {
+            return 7;
+        }
+        return 0;
     }
     let mut member = places::first_member(s, at);
     loop {

@@ -22,7 +22,6 @@ use Rattle.records.specs.declared.Step.the-variants.{Next, Bad}
 use Rattle.records.specs.declared.Head.{Head}
 use Rattle.records.specs.declared.Source.{Source}
 use Rattle.records.specs.declared.Snapshot.{Snapshot}
-use Rattle.records.specs.declared.Event.{Event}
 
 pub step-bad : (s : List ℕ) (st : State) (r : Record) {k : ℕ} → k ≡ fault s st r → (k ≡ 0 → ⊥) → Bad k ≡ stepFor s st r
 unfolding stepFor pick
@@ -71,9 +70,9 @@ module _ (s : List ℕ) (st : State) (fit : Fit s st) where
   snapshot-fault ex eo ec ew ek = rw (ew, ec, eo, ex ∙ snapshot-near s (st .at) near) at ek
 
   -- ---- an event
-  pub event-fault : {x : Event} {o : ℕ} {w : Bool} {k : ℕ} → x ≡ eventAt s (st .at) → o ≡ x .source → w ≡ (leb (st .sources) o || eqb (x .clock) 7) →
+  pub event-fault : {source clock o : ℕ} {w : Bool} {k : ℕ} → source ≡ eventAt s (st .at) .source → clock ≡ eventAt s (st .at) .clock → o ≡ source → w ≡ (leb (st .sources) o || eqb clock 7) →
       k ≡ faultOf (ltb (8 * length s) (st .at + 75)) (ltb 4 (st .last)) w false false → k ≡ fault s st (event (eventHere s (st .at)))
-  event-fault ex eo ew ek = rw (ew, eo, ex ∙ event-near s (st .at) near) at ek
+  event-fault es ec eo ew ek = rw (ew, eo, es, ec, event-near s (st .at) near) at ek
 
   -- ---- by the kind
   kind-is : {t : Taken} → t ≡ takenAt s (st .at) 3 → number s (st .at) 3 ≡ t .value

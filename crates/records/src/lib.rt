@@ -46,6 +46,12 @@ pub struct Event {
     pub reading: i64,
 }
 
+// What judging an event record needs of it: its source and its clock. The 64 bits of the reading decide nothing.
+struct Label {
+    source: u8,
+    clock: u8,
+}
+
 // What judging a record needs of those before it: the bit position, the last kind, how many of each kind there were,
 // and which files are containers (bit f of `containers` is file f). Plain numbers, so that no earlier byte is needed.
 pub struct State {
@@ -160,6 +166,25 @@ pub fn event_at(s: &[u8], at: usize) -> Event
         source: whose.value as u8,
         clock: which.value as u8,
         reading: whole::of_pattern(when.value),
+    }
+}
+
+// The source and the clock of the event record at a bit position: its reading is left unread.
+fn label_at(s: &[u8], at: usize) -> Label
+    ensures { λ r. ⌜ (r .source ≡ eventAt (now (s .entry)) at .source) × (r .clock ≡ eventAt (now (s .entry)) at .clock) ⌝ }
+{
+    if FAR <= at {
+        return Label {
+            source: 0,
+            clock: 0,
+        };
+    }
+    let kind = Cursor { at }.take(s, 3);
+    let source_field = kind.next.take(s, 5);
+    let clock_field = source_field.next.take(s, 3);
+    Label {
+        source: source_field.value as u8,
+        clock: clock_field.value as u8,
     }
 }
 
@@ -344,7 +369,7 @@ fn step_event(s: &[u8], st: State) -> Step
     ensures { λ r. ⌜ r ≡ stepFor (now (s .entry)) st (event (eventHere (now (s .entry)) (st .at))) ⌝ }
 {
     let at = st.at;
-    let x = event_at(s, at);
+    let x = label_at(s, at);
     let k = verdict(
         8 * s.len() < at + 75,
         4 < st.last,

@@ -437,25 +437,35 @@ fn many_snapshots() {
     listed(t, b"accepted, 256 snapshots", &u);
 }
 
-// What the readers give at the places of a sheet's records.
-fn read_back() {
-    let s =
-        b"\x2c\x02\xc2\x60\x09\x89\x8d\x00\x00\x00\x00\x01\x03\xff\xff\xff\xfd\x84\xff\xff\xff\xff\xff\xff\xff\xff\xa0\x00\x00\x00\x00\x00\x00\x00\x58\x01\x00\x00\x00\x00\x00\x00\x00\x00\x00";
+// Where the files of a sheet lie.
+fn read_places(s: &[u8]) {
     let places = sheet::file_places(s, 2);
     told(
         places[0] == 0 && places[1] == 23 && places[2] == 0,
         b"the places of two files",
     );
+}
+
+fn read_head(s: &[u8]) {
     let h = records::head_at(s, 23);
     told(
         h.container && h.claim == 0 && h.length == 2,
         b"the second file, a container with no claim",
     );
+}
+
+fn read_path(s: &[u8]) {
     told(sheet::same_path(s, 23, b"bc"), b"its path");
     told(!sheet::same_path(s, 23, b"bd"), b"no other path");
     told(!sheet::same_path(s, 23, b"b"), b"no shorter path");
+}
+
+fn read_source(s: &[u8]) {
     let o = records::source_at(s, 94);
     told(o.file.0 == 0 && o.id == 4294967295, b"the second source");
+}
+
+fn read_snapshot(s: &[u8]) {
     let n = records::snapshot_at(s, 134);
     told(
         n.source == 1 && n.clock == 1 && n.reading == -1,
@@ -465,6 +475,9 @@ fn read_back() {
         n.clock2 == 2 && n.reading2 == 5,
         b"the snapshot, on its second clock",
     );
+}
+
+fn read_event(s: &[u8]) {
     let e = records::event_at(s, 276);
     told(
         e.source == 0 && e.clock == 0,
@@ -474,6 +487,18 @@ fn read_back() {
         e.reading == -9223372036854775807 - 1,
         b"the event, at the lowest reading",
     );
+}
+
+// What the readers give at the places of a sheet's records.
+fn read_back() {
+    let s =
+        b"\x2c\x02\xc2\x60\x09\x89\x8d\x00\x00\x00\x00\x01\x03\xff\xff\xff\xfd\x84\xff\xff\xff\xff\xff\xff\xff\xff\xa0\x00\x00\x00\x00\x00\x00\x00\x58\x01\x00\x00\x00\x00\x00\x00\x00\x00\x00";
+    read_places(s);
+    read_head(s);
+    read_path(s);
+    read_source(s);
+    read_snapshot(s);
+    read_event(s);
 }
 
 fn main() {

@@ -1,19 +1,20 @@
 -- Where the characters from a position on end, one character at a time. Assumes nothing.
 use mathlib.Core.Path.{_≡_, refl, sym, ap, _∙_}
-use Prim.Native.Nat.{ℕ, suc, _+_, _≤_, _<_}
+use mathlib.Core.Bool.{Bool, true, false}
+use Prim.Native.Nat.{ℕ, zero, suc, _+_, _≤_, _<_}
 use native.Mathlib.Omega.{arith}
+use native.Mathlib.Decide.{decLt}
 use lib.ListN.{length, getD}
 use Rattle.text.specs.Reading.{Text, Out, done, bad, deep, next, peek, scan}
-use Rattle.text.specs.Class.{classOf}
 use Rattle.text.specs.Strings.{character, codeOf, before, onward, characters, string}
 use Rattle.text.specs.declared.Scan.{Scan}
 use Rattle.text.specs.declared.Scan.the-variants.{Done, Bad}
 use Rattle.text.specs.declared.Code.{Code}
 use Rattle.text.specs.declared.Code.the-variants.{Of, No}
-use Rattle.text.specs.laws.Peek.{peek-at}
-use Rattle.text.specs.laws.Class.{quote-of, class-quote}
-use Rattle.text.specs.laws.Readers.{Past, past-strict, past-deep}
-use Rattle.text.specs.laws.Strings.{character-past, character-plain, characters-close, characters-more, characters-bad, characters-over, characters-turns, string-none, string-some}
+use Rattle.text.specs.laws.Readers.{at, Past, past-strict, past-deep}
+use Rattle.text.specs.laws.Strings.{character-past, character-bounded, characters-close, characters-more, characters-bad, characters-turns, string-none, string-some}
+use Rattle.text.specs.laws.Plain.{own, pastOwn, own-step, own-stop, own-past, own-ge, own-le}
+use Rattle.text.proofs.Quick.{plain-at}
 
 -- where the characters from i on end
 pub ends : Text → ℕ → Scan
@@ -54,28 +55,20 @@ module _ (s : Text) (i : ℕ) where
   pub goes-past : {r : Code} {v j : ℕ} → r ≡ codeOf (character s i) → r ≡ Of v j → i < j
   goes-past e f = past-strict (character-past s i) (code-done _ (sym e ∙ f))
 
-  module _ (l : i < length s) {k : ℕ} (e : k ≡ classOf (getD s i 0)) where
-    here : k ≡ classOf (peek s i)
-    here = e ∙ ap classOf (peek-at s i l)
+  pub goes-within : i ≤ length s → {r : Code} {v j : ℕ} → r ≡ codeOf (character s i) → r ≡ Of v j → j ≤ length s
+  unfolding at
+  goes-within h e f = let l = character-bounded s i h in rw (code-done _ (sym e ∙ f)) at l
 
-    -- a byte that is a character by itself
-    pub goes-plain : 4 ≤ k → k < 18 → ends s i ≡ ends s (i + 1)
-    goes-plain a b = ends-more s i (character-plain s i here a b)
-
+  module _ {b : ℕ} (e : b ≡ peek s i) where
     -- the closing quote
-    pub closes : k ≡ 2 → ends s i ≡ Done (i + 1)
+    pub closes : b ≡ 34 → ends s i ≡ Done (i + 1)
     unfolding scan ends
-    closes h = ap scan (characters-close (length s) s i (quote-of _ (sym here ∙ h)))
+    closes h = ap scan (characters-close (length s) s i (sym e ∙ h))
 
-    -- no character
-    pub stops : (k ≡ 2 → ⊥) → {r : Code} {p : ℕ} → r ≡ codeOf (character s i) → r ≡ No p → ends s i ≡ Bad p
+    -- no character; so it is past the end too
+    pub stops : (b ≡ 34 → ⊥) → {r : Code} {p : ℕ} → r ≡ codeOf (character s i) → r ≡ No p → ends s i ≡ Bad p
     unfolding scan ends
-    stops h f g = ap scan (characters-bad (length s) s i (λ q. h (here ∙ ap classOf q ∙ class-quote)) (code-bad _ (character-past s i) (sym f ∙ g)))
-
-  -- the end
-  pub over : length s ≤ i → ends s i ≡ Bad i
-  unfolding scan ends
-  over h = ap scan (characters-over (suc (length s)) s i h)
+    stops h f g = ap scan (characters-bad (length s) s i (λ q. h (e ∙ q)) (code-bad _ (character-past s i) (sym f ∙ g)))
 
   -- the opening quote
   pub opens : {b : ℕ} → b ≡ peek s i → b ≡ 34 → scan (string s i) ≡ ends s (i + 1)
@@ -85,3 +78,27 @@ module _ (s : Text) (i : ℕ) where
   pub no-string : {b : ℕ} → b ≡ peek s i → (b ≡ 34 → ⊥) → Bad i ≡ scan (string s i)
   unfolding scan
   no-string e h = ap scan (sym (string-none s i (λ q. h (e ∙ q))))
+
+-- bytes that are characters by themselves, n at most
+own-turns : (n : ℕ) (s : Text) (i : ℕ) → length s ≤ n + i → ends s i ≡ ends s (pastOwn s i)
+own-turns zero s i h = ap (ends s) (sym (own-past s i (omega arith)))
+own-turns (suc n) s i h = go (decLt i (length s)) (own-turns n s (i + 1) (omega arith))
+  where
+    here : ends s (i + 1) ≡ ends s (pastOwn s (i + 1)) → (l : i < length s) (r : Bool) → r ≡ own (getD s i 0) → ends s i ≡ ends s (pastOwn s i)
+    here f l true e = ends-more s i (plain-at s i l e refl) ∙ f ∙ ap (ends s) (sym (own-step s i l e refl))
+    here f l false e = ap (ends s) (sym (own-stop s i l e refl))
+
+    go : Dec (i < length s) → ends s (i + 1) ≡ ends s (pastOwn s (i + 1)) → ends s i ≡ ends s (pastOwn s i)
+    go (yes l) f = here f l _ refl
+    go (no g) f = ap (ends s) (sym (own-past s i (omega arith)))
+
+-- the run of them
+pub goes-own : (s : Text) (i : ℕ) {k : ℕ} → k ≡ pastOwn s i → ends s i ≡ ends s k
+goes-own s i e = own-turns (length s) s i (omega arith) ∙ ap (ends s) (sym e)
+
+-- and the character after them, from i to j
+pub ahead : (s : Text) (i : ℕ) {k : ℕ} → i ≤ length s → k ≡ pastOwn s i → {r : Code} {v j : ℕ} → r ≡ codeOf (character s k) → r ≡ Of v j → (i < j) × (j ≤ length s)
+ahead s i {k} h e f g =
+    let a : i ≤ pastOwn s i = own-ge s i in
+    let b : pastOwn s i ≤ length s = own-le s i h in
+    (omega (arith, goes-past s k f g), goes-within s k (omega arith) f g)

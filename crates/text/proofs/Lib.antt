@@ -1,4 +1,5 @@
 -- Laws that the functions' proofs use.
 pub mod Table
+pub mod Quick
 pub mod Coded
 pub mod Ends

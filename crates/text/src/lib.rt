@@ -1,12 +1,14 @@
 // The bytes of a JSON text: classes, strings, numbers, literals, whitespace.
 ghost use mathlib.Core.Path.{_≡_};
-ghost use Prim.Native.Nat.{_+_, _<_, _^_};
-ghost use mathlib.Core.Bool.{_||_};
+ghost use Prim.Native.Nat.{_+_, _≤_, _<_, _^_};
+ghost use mathlib.Core.Bool.{true, _||_};
 ghost use lib.Dec.{eqb};
+ghost use lib.ListN.{length};
 ghost use Rattle.text.specs.Reading.{pick, peek, run, word, scan};
 ghost use Rattle.text.specs.Class.{classOf, skip, whitespace, digit as digitOf};
 ghost use Rattle.text.specs.Strings.{hexOf, escapeOf, pairOf, quad as quadOf, low as lowOf, paired as pairedOf, escape as escapeAt, second as secondOf, two as twoOf, three as threeOf, four as fourOf, character as characterOf, codeOf, string as stringOf};
 ghost use Rattle.text.specs.Numbers.{digits as digitsOf, minus as minusOf, sign as signOf, int as intOf, frac as fracOf, exp as expOf, rest as restOf, number as numberOf};
+ghost use Rattle.text.specs.laws.Plain.{own, pastOwn};
 
 // Where a reading ends; or the first position after which no well-formed text is possible; or the byte that opens one level too many.
 pub enum Scan {
@@ -103,10 +105,13 @@ pub fn byte(s: &[u8], at: usize) -> u32
     if at < s.len() { widen(s[at]) } else { 256 }
 }
 
-// Whether a byte is whitespace.
+// Whether a byte is whitespace. Most bytes are above the space, so that is asked first.
 fn white(b: u8) -> bool
     ensures { λ r. ⌜ r ≡ whitespace b ⌝ }
 {
+    if 32 < b {
+        return false;
+    }
     let k = class(b);
     k == 4 || k == 1
 }
@@ -321,6 +326,83 @@ fn four(s: &[u8], at: usize) -> Code
     Code::Of(((b % 8 * 64 + c % 64) * 64 + d % 64) * 64 + e % 64, at + 4)
 }
 
+// Whether a byte is a character by itself, as those of the classes 4 to 17 are. By comparing alone, which costs less than the class.
+fn plain(b: u8) -> bool
+    ensures { λ r. ⌜ r ≡ own b ⌝ }
+{
+    if b < 32 {
+        return false;
+    }
+    if 127 < b {
+        return false;
+    }
+    b != 34 && b != 92
+}
+
+// 1 for a plain byte, so that they can be counted without a branch.
+fn plain_one(b: u8) -> usize
+    ensures { λ r. ⌜ (r ≤ 1) × (r ≡ 1 → own b ≡ true) ⌝ }
+{
+    if plain(b) { 1 } else { 0 }
+}
+
+// The 16 bytes at a position are plain. All are counted, with no way out between, since that becomes a few instructions for the 16 together.
+fn plain_block(s: &[u8], at: usize) -> bool
+    requires { ⌜ at + 16 ≤ length (now s) ⌝ }
+    ensures { λ r. ⌜ (r ≡ true → pastOwn (now (s .entry)) at ≡ pastOwn (now (s .entry)) (at + 16)) ⌝ }
+{
+    let mut n: usize = 0;
+    for i in 0..16 {
+        n += plain_one(s[at + i]);
+    }
+    n == 16
+}
+
+// Past plain bytes at a position by whole blocks.
+fn past_blocks(s: &[u8], at: usize) -> usize
+    requires { ⌜ at ≤ length (now s) ⌝ }
+    ensures { λ r. ⌜ (pastOwn (now (s .entry)) at ≡ pastOwn (now (s .entry)) r) × (r ≤ length (now (s .entry))) ⌝ }
+{
+    let mut i = at;
+    while 16 <= s.len() - i {
+        if !plain_block(s, i) {
+            return i;
+        }
+        i += 16;
+    }
+    i
+}
+
+// Past plain bytes at a position one by one, up to an end.
+fn past_singly(s: &[u8], at: usize, end: usize) -> usize
+    requires { ⌜ (at ≤ end) × (end ≤ length (now s)) ⌝ }
+    ensures { λ r. ⌜ (pastOwn (now (s .entry)) at ≡ pastOwn (now (s .entry)) r) × ((r ≤ end) × (r < end → pastOwn (now (s .entry)) r ≡ r)) ⌝ }
+{
+    let mut i = at;
+    while i < end {
+        if !plain(s[i]) {
+            return i;
+        }
+        i += 1;
+    }
+    i
+}
+
+// Past the plain bytes at a position. The first 12 one by one: most strings are shorter, and a block that fails costs time.
+fn past_plain(s: &[u8], at: usize) -> usize
+    requires { ⌜ at ≤ length (now s) ⌝ }
+    ensures { λ r. ⌜ r ≡ pastOwn (now (s .entry)) at ⌝ }
+{
+    if s.len() - at < 12 {
+        return past_singly(s, at, s.len());
+    }
+    let near = past_singly(s, at, at + 12);
+    if near < at + 12 {
+        return near;
+    }
+    past_singly(s, past_blocks(s, near), s.len())
+}
+
 // A character of a string: its code point.
 pub fn character(s: &[u8], at: usize) -> Code
     ensures { λ r. ⌜ r ≡ codeOf (characterOf (now (s .entry)) at) ⌝ }
@@ -328,25 +410,19 @@ pub fn character(s: &[u8], at: usize) -> Code
     if s.len() <= at {
         return Code::No(at);
     }
-    let k = class(s[at]);
-    match k {
+    if plain(s[at]) {
+        return Code::Of(byte(s, at), at + 1);
+    }
+    match class(s[at]) {
         3 => escape(s, at),
         19 => two(s, at),
         20 => three(s, at),
         21 => four(s, at),
-        _ => {
-            if k < 4 {
-                Code::No(at)
-            } else if 17 < k {
-                Code::No(at)
-            } else {
-                Code::Of(byte(s, at), at + 1)
-            }
-        }
+        _ => Code::No(at),
     }
 }
 
-// A string, from its opening quote on. A byte of the classes 4 to 17 is a character by itself.
+// A string, from its opening quote on.
 pub fn string(s: &[u8], at: usize) -> Scan
     ensures { λ r. ⌜ r ≡ scan (stringOf (now (s .entry)) at) ⌝ }
 {
@@ -354,23 +430,28 @@ pub fn string(s: &[u8], at: usize) -> Scan
         return Scan::Bad(at);
     }
     let mut i = at + 1;
-    while i < s.len() {
-        match class(s[i]) {
-            4..=17 => i += 1,
-            2 => return Scan::Done(i + 1),
-            _ => match character(s, i) {
-                Code::Of(_, j) => i = j,
-                Code::No(p) => return Scan::Bad(p),
-            },
+    loop {
+        i = past_plain(s, i);
+        if byte(s, i) == 34 {
+            return Scan::Done(i + 1);
+        }
+        match character(s, i) {
+            Code::Of(_, j) => i = j,
+            Code::No(p) => return Scan::Bad(p),
         }
     }
-    Scan::Bad(i)
 }
 
-// Whether a byte is a digit.
+// Whether a byte is a digit. Outside 48 to 57 comparing alone tells, which costs less than the class.
 fn digit(b: u8) -> bool
     ensures { λ r. ⌜ r ≡ digitOf b ⌝ }
 {
+    if b < 48 {
+        return false;
+    }
+    if 57 < b {
+        return false;
+    }
     let k = class(b);
     k == 5 || k == 6
 }

@@ -16,6 +16,7 @@ use Rattle.text.specs.Strings.{character, utf8, before, string}
 use Rattle.json.specs.Tree.{same}
 use Rattle.values.specs.Strings.{lengthIn, lengthAt, isText, sameAs, bothText, sameTexts}
 use Rattle.values.specs.laws.Compared.{startsFrom}
+use Rattle.values.specs.laws.Ordinary.{Ordinary, reads-itself, width-one, starts-itself}
 use Rattle.text.specs.laws.Readers.{pick-true, pick-false}
 use Rattle.text.specs.laws.Strings.{string-none}
 use Rattle.values.specs.laws.Outs.{Stops, stops-is, stops-bad, stops-deep}
@@ -160,6 +161,14 @@ module _ (s t : Text) (k i : ℕ) {r : Bool} (inv : matches (rest s i) t k ≡ r
 
     pub same-over : b ≡ true → {w : ℕ} → w ≡ length (utf8 v) → length t < k + w → false ≡ r
     same-over f {w} g l = sym (matches-past (rest s j) t (k + w) l) ∙ same-more f g
+
+  -- a byte that is a character by itself
+  module _ {b : ℕ} (e : b ≡ peek s i) (n : b ≡ 34 → ⊥) (o : Ordinary b) {x : ℕ} (f : x ≡ peek t k) where
+    pub same-byte-other : (x ≡ b → ⊥) → false ≡ r
+    same-byte-other h = same-other (λ q. n (e ∙ q)) (reads-itself s i e o n) (starts-itself t k b o) (ne-eqb b (peek t k) (λ q. h (f ∙ sym q)))
+
+    pub same-byte-more : x ≡ b → matches (rest s (i + 1)) t (k + 1) ≡ r
+    same-byte-more h = same-more (λ q. n (e ∙ q)) (reads-itself s i e o n) (starts-itself t k b o) (eq-eqb b (peek t k) (sym h ∙ f)) (width-one b o)
 
 -- ---- the comparison with another string: equal texts have equal characters
 

@@ -1,5 +1,6 @@
 -- Laws of the definitions, for the theorems, the proofs, and those who build on them.
 pub mod Outs
 pub mod Compared
+pub mod Ordinary
 pub mod Shapes
 pub mod Standing

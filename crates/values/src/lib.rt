@@ -12,6 +12,7 @@ ghost use Rattle.values.specs.Stands.{kindBy, kindAt};
 ghost use Rattle.values.specs.Strings.{lengthAt, sameAs, sameTexts};
 ghost use Rattle.values.specs.Integer.{whole, broken as brokenOf, decimal, ranged, integer, integerAt};
 ghost use Rattle.values.specs.laws.Compared.{startsFrom};
+ghost use Rattle.values.specs.laws.Ordinary.{Ordinary};
 
 // What kind of value begins at a position.
 pub enum Kind {
@@ -153,6 +154,19 @@ fn starts(t: &[u8], k: usize, v: u32) -> bool
     more(t, k3, three, 128 + v % 64)
 }
 
+// A byte that is a character by itself, if it is no quote. Most are, and such are compared as bytes.
+fn ordinary(b: u32) -> bool
+    ensures { λ r. ⌜ (r ≡ true → Ordinary b) ⌝ }
+{
+    if b < 32 {
+        return false;
+    }
+    if 127 < b {
+        return false;
+    }
+    b != 92
+}
+
 // The string at a position, unescaped, is a text; false where no string stands. No copy is made: each character is compared where it stands.
 pub fn same_as(s: &[u8], at: usize, t: &[u8]) -> bool
     ensures { λ r. ⌜ r ≡ sameAs (now (s .entry)) at (now (t .entry)) ⌝ }
@@ -163,8 +177,17 @@ pub fn same_as(s: &[u8], at: usize, t: &[u8]) -> bool
     let mut i = at + 1;
     let mut k: usize = 0;
     loop {
-        if text::byte(s, i) == 34 {
+        let b = text::byte(s, i);
+        if b == 34 {
             return k == t.len();
+        }
+        if ordinary(b) {
+            if text::byte(t, k) != b {
+                return false;
+            }
+            i += 1;
+            k += 1;
+            continue;
         }
         match text::character(s, i) {
             text::Code::Of(v, j) => {
@@ -182,6 +205,13 @@ pub fn same_as(s: &[u8], at: usize, t: &[u8]) -> bool
     }
 }
 
+// Two bytes that are characters by themselves, if they are no quotes.
+fn both_ordinary(b: u32, d: u32) -> bool
+    ensures { λ r. ⌜ (r ≡ true → Ordinary b × Ordinary d) ⌝ }
+{
+    if ordinary(b) { ordinary(d) } else { false }
+}
+
 // The strings at two positions, unescaped, are one text; false where either is none. Equal texts have equal characters.
 pub fn same_texts(s: &[u8], p: usize, q: usize) -> bool
     ensures { λ r. ⌜ r ≡ sameTexts (now (s .entry)) p q ⌝ }
@@ -195,11 +225,21 @@ pub fn same_texts(s: &[u8], p: usize, q: usize) -> bool
     let mut i = p + 1;
     let mut k = q + 1;
     loop {
-        if text::byte(s, i) == 34 {
-            return text::byte(s, k) == 34;
+        let b = text::byte(s, i);
+        let d = text::byte(s, k);
+        if b == 34 {
+            return d == 34;
         }
-        if text::byte(s, k) == 34 {
+        if d == 34 {
             return false;
+        }
+        if both_ordinary(b, d) {
+            if b != d {
+                return false;
+            }
+            i += 1;
+            k += 1;
+            continue;
         }
         match text::character(s, i) {
             text::Code::Of(v, j) => match text::character(s, k) {

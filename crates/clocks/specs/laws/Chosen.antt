@@ -1,6 +1,6 @@
--- What stands in the order around a reading is the correspondence that carries it. Assumes nothing.
+-- What a search over the keys of two clocks' correspondences chooses is the correspondence that carries the reading. Assumes nothing.
 use mathlib.Core.Path.{_≡_, refl, sym, ap, _∙_}
-use mathlib.Core.Bool.{Bool, true, false, cond, not, _&&_, true≢false}
+use mathlib.Core.Bool.{true, false, cond, not}
 use mathlib.Core.List.{List, [], _∷_}
 use Prim.Native.Nat.{ℕ, _+_, _*_, _-_, _/_, _%_, _^_, _≤_, _<_}
 use native.Mathlib.Nat.{not-suc-le-zero}
@@ -13,8 +13,9 @@ use lib.Seq.{take-length, getD-set-same, getD-set-other}
 use lib.IntN.{ℤ}
 use mir.Syntax.{w64}
 use mir.Val.{SFits}
-use borrow.Author.Tests.{eq-eqb, ne-eqb, eqb-true, lt-ltb, ltb-true}
-use Rattle.paths.specs.laws.Least.{and-left, and-right}
+use borrow.Author.Tests.{eq-eqb, ne-eqb, lt-ltb, le-ltb}
+use Rattle.paths.specs.Paths.{least}
+use Rattle.paths.specs.laws.Least.{least-le, least-to, least-from}
 use Rattle.whole.specs.declared.Sum.{Sum}
 use Rattle.whole.specs.declared.Sum.the-variants.{In}
 use Rattle.whole.specs.Whole.{excess, shiftedOf}
@@ -26,7 +27,7 @@ use Rattle.whole.specs.laws.Lists.{length-xs}
 use Rattle.graphs.specs.Links.{Link, linksOf, listOf}
 use Rattle.graphs.specs.laws.Links.{links-most, linkAt, seen, seen-forwards, seen-backwards, Sight, sight, before, before-mono, stands, found}
 use Rattle.graphs.specs.laws.Links.Sight.{forwards, backwards, unseen}
-use Rattle.clocks.specs.laws.Order.{side, lives, rank, Lists, rankAt, livesAt, Long, Ordered, Kept, Between, side-even, side-odd, lives-even, lives-odd, side-small, side-below, not-falling}
+use Rattle.clocks.specs.laws.Order.{side, lives, rank, Lists, rankAt, livesAt, Ordered, Sorted, Small, Grouped, Range, pairOf, pairAt, rank-same, side-even, side-odd, lives-even, lives-odd, side-small, side-below, not-falling}
 
 -- the reading of a directed correspondence on the clock that it leads from; with the two lists changed, on the other
 unfoldable pub readAt : List ℤ → List ℤ → ℕ → ℤ
@@ -54,17 +55,74 @@ keyed-more {xs} {i} {ps} k h f = record {
 pub key-below : {xs : List ℤ} {n : ℕ} {ps : List ℕ} → Keyed xs n ps → (i : ℕ) → i < n → getD ps i 0 < 2 ^ 64
 key-below {xs} k i h = rw (k .keys i h) (excess-lt (nth xs i) (k .fits i h))
 
--- every correspondence in its two directions, in order, with its keys
-pub record Tables (fs : List ℕ) (xs : List ℤ) (gs : List ℕ) (ys : List ℤ) (l : Lists) (os : List ℕ) (n : ℕ) : Type 0 where
-  pub same-a : l .a ≡ fs
-  pub same-b : l .b ≡ gs
+-- every correspondence in its two directions, in order, and the keys in that order; p and q are the keys as listed
+pub record Tables (fs : List ℕ) (xs : List ℤ) (gs : List ℕ) (ys : List ℤ) (os ks : List ℕ) (n : ℕ) : Type 0 where
+  pub p : List ℕ
+  pub q : List ℕ
   pub small-a : (i : ℕ) → getD fs i 0 < 65536
   pub small-b : (i : ℕ) → getD gs i 0 < 65536
-  pub keyed-x : Keyed xs (length (linksOf fs xs gs ys)) (l .p)
-  pub keyed-y : Keyed ys (length (linksOf fs xs gs ys)) (l .q)
-  pub ordered : Ordered (rankAt l) (livesAt l) os n (2 * length (linksOf fs xs gs ys))
-  pub long : Long l (length (linksOf fs xs gs ys))
+  pub keyed-x : Keyed xs (length (linksOf fs xs gs ys)) p
+  pub keyed-y : Keyed ys (length (linksOf fs xs gs ys)) q
+  pub ordered : Ordered (rankAt (record { a = fs; p = p; b = gs; q = q })) (livesAt (record { a = fs; p = p; b = gs; q = q })) os n (2 * length (linksOf fs xs gs ys))
+  pub sorted : Sorted p q os n ks
   pub room : n ≤ length os
+
+-- ---- a search over keys
+-- the keys from lo to hi don't fall
+abbrev pub Rising : List ℕ → ℕ → ℕ → Type 0
+Rising ks lo hi = (i j : ℕ) → lo ≤ i → i ≤ j → j < hi → getD ks i 0 ≤ getD ks j 0
+
+-- the last place from lo to hi whose key is at most k, or lo: the place before the first one after lo whose key is more
+unfoldable pub chosen : List ℕ → ℕ → ℕ → ℕ → ℕ
+chosen ks lo hi k = lo + least (λ i. ltb k (getD ks (lo + 1 + i) 0)) (hi - (lo + 1))
+
+module _ (ks : List ℕ) (lo hi k : ℕ) where
+  pub chosen-low : lo ≤ chosen ks lo hi k
+  unfolding chosen
+  chosen-low = omega arith
+
+  pub chosen-high : lo < hi → chosen ks lo hi k < hi
+  unfolding chosen
+  chosen-high h = omega (arith, least-le (λ i. ltb k (getD ks (lo + 1 + i) 0)) (hi - (lo + 1)))
+
+  -- it stands before each key after lo that is more
+  pub chosen-before : (m : ℕ) → lo < m → k < getD ks m 0 → chosen ks lo hi k < m
+  unfolding chosen
+  chosen-before m h l =
+      let e : lo + 1 + (m - (lo + 1)) ≡ m = omega arith in
+      omega (arith, least-to (λ i. ltb k (getD ks (lo + 1 + i) 0)) (hi - (lo + 1)) (m - (lo + 1)) (rw e (lt-ltb k (getD ks m 0) l)))
+
+  -- and not before any that isn't
+  pub chosen-from : (m : ℕ) → Rising ks lo hi → lo ≤ m → m < hi → getD ks m 0 ≤ k → m ≤ chosen ks lo hi k
+  unfolding chosen
+  chosen-from m r g h l =
+      omega (
+        arith,
+        least-from (λ i. ltb k (getD ks (lo + 1 + i) 0)) (hi - (lo + 1)) (m - lo) (omega arith)
+            (λ i s. le-ltb k (getD ks (lo + 1 + i) 0) (omega (arith, r (lo + 1 + i) m (omega arith) (omega arith) h))),
+      )
+
+-- what the search and the reading that it leads to ask
+pub record Searchable (xs ys : List ℤ) (ks os : List ℕ) (lo hi : ℕ) : Type 0 where
+  pub keys : hi ≤ length ks
+  pub order : hi ≤ length os
+  pub reach : (i : ℕ) → lo ≤ i → i < hi → (getD os i 0 / 2 < length xs) × (getD os i 0 / 2 < length ys)
+  pub rising : Rising ks lo hi
+
+-- a reading carried by the numbers from lo to hi: by the last whose key is at most the reading's, else by the first; unchanged if there is none
+unfoldable pub carriedIn : List ℤ → List ℤ → List ℕ → List ℕ → ℕ → ℕ → ℤ → Sum
+carriedIn xs ys ks os lo hi t =
+    let e = getD os (chosen ks lo hi (excess t)) 0 in
+    cond (ltb lo hi) (shiftedOf t (readAt xs ys e) (readAt ys xs e)) (In t)
+
+module _ (xs ys : List ℤ) (ks os : List ℕ) (lo hi : ℕ) (t : ℤ) where
+  pub in-some : lo < hi → (j : ℕ) → j ≡ chosen ks lo hi (excess t) → carriedIn xs ys ks os lo hi t ≡ shiftedOf t (readAt xs ys (getD os j 0)) (readAt ys xs (getD os j 0))
+  unfolding carriedIn
+  in-some h j e = rw (lt-ltb lo hi h, e) refl
+
+  pub in-none : hi ≤ lo → carriedIn xs ys ks os lo hi t ≡ In t
+  unfolding carriedIn
+  in-none h = rw (le-ltb lo hi h) refl
 
 -- a reading carried over a pair of a graph: by the pair's list; unchanged if it has none, which is the zero offset
 unfoldable pub carriedOver : List Pair → ℤ → Sum
@@ -79,6 +137,15 @@ over-list (p ∷ ps) t h = refl
 pub over-none : (ps : List Pair) (t : ℤ) → ps ≡ [] → carriedOver ps t ≡ In t
 unfolding carriedOver
 over-none ps t e = rw e refl
+
+-- the clock that a number of the order leads to, and its key, are small
+number-small : {fs : List ℕ} {xs : List ℤ} {gs : List ℕ} {ys : List ℤ} {os ks : List ℕ} {n : ℕ} (T : Tables fs xs gs ys os ks n) (i : ℕ) → i < n
+    → Small (side fs gs (getD os i 0)) (side gs fs (getD os i 0)) (side (T .p) (T .q) (getD os i 0))
+number-small {fs} {xs} {gs} {ys} {os} T i h =
+    let e : getD os i 0 / 2 < length (linksOf fs xs gs ys) = omega (arith, T .ordered .inside i h) in record {
+      to = side-small gs fs (getD os i 0) 65536 (T .small-b) (T .small-a);
+      key = side-below (T .p) (T .q) (getD os i 0) (2 ^ 64) (key-below (T .keyed-x) (getD os i 0 / 2) e) (key-below (T .keyed-y) (getD os i 0 / 2) e);
+    }
 
 module _ (fs : List ℕ) (xs : List ℤ) (gs : List ℕ) (ys : List ℤ) (c d : ℕ) where
   -- number e is a correspondence of c and d, seen from c
@@ -149,215 +216,183 @@ module _ (fs : List ℕ) (xs : List ℤ) (gs : List ℕ) (ys : List ℤ) (c d : 
       let w : f / 2 + (e / 2 - f / 2) ≡ e / 2 = omega arith in
       rw w at (before-mono fs xs gs ys c d (e / 2 - f / 2) (f / 2) (omega arith))
 
-  module _ {l : Lists} {os : List ℕ} {n : ℕ} (t : ℤ) (ft : SFits w64 t) (T : Tables fs xs gs ys l os n) where
+  module _ {os ks : List ℕ} {n : ℕ} (T : Tables fs xs gs ys os ks n) where
+    abbrev l : Lists
+    l = record { a = fs; p = T .p; b = gs; q = T .q }
+
     -- the key of an arc, and its rank
-    key-is : (e : ℕ) → Arc e → (side (l .p) (l .q) e ≡ excess (readAt xs ys e)) × SFits w64 (readAt xs ys e)
+    key-is : (e : ℕ) → Arc e → (side (T .p) (T .q) e ≡ excess (readAt xs ys e)) × SFits w64 (readAt xs ys e)
     key-is e r = go (ℕ-discrete (e % 2) 0)
       where
         k : e / 2 < length (linksOf fs xs gs ys)
         k = omega (arith, r .inside)
 
-        go : Dec (e % 2 ≡ 0) → (side (l .p) (l .q) e ≡ excess (readAt xs ys e)) × SFits w64 (readAt xs ys e)
-        go (yes z) = rw (side-even (l .p) (l .q) e z, read-even xs ys e z) (T .keyed-x .keys (e / 2) k, T .keyed-x .fits (e / 2) k)
-        go (no z) = rw (side-odd (l .p) (l .q) e z, read-odd xs ys e z) (T .keyed-y .keys (e / 2) k, T .keyed-y .fits (e / 2) k)
+        go : Dec (e % 2 ≡ 0) → (side (T .p) (T .q) e ≡ excess (readAt xs ys e)) × SFits w64 (readAt xs ys e)
+        go (yes z) = rw (side-even (T .p) (T .q) e z, read-even xs ys e z) (T .keyed-x .keys (e / 2) k, T .keyed-x .fits (e / 2) k)
+        go (no z) = rw (side-odd (T .p) (T .q) e z, read-odd xs ys e z) (T .keyed-y .keys (e / 2) k, T .keyed-y .fits (e / 2) k)
 
     rank-is : (e : ℕ) → Arc e → rankAt l e ≡ rank c d (excess (readAt xs ys e))
     unfolding rankAt
-    rank-is e r = rw (T .same-a, T .same-b, r .from, r .to, key-is e r .0) refl
+    rank-is e r = rw (r .from, r .to, key-is e r .0) refl
 
     key-small : (e : ℕ) → Arc e → excess (readAt xs ys e) < 2 ^ 64
     key-small e r = excess-lt (readAt xs ys e) (key-is e r .1)
 
-    -- an arc that is as near as any in the order carries t
-    arc-carries : (e : ℕ) → Arc e
-        → ((f : ℕ) → f < e → lives fs gs f ≡ true → rankAt l f ≡ rankAt l e → ⊥)
-        → (excess (readAt xs ys e) ≤ excess t → (f : ℕ) → Arc f → excess (readAt xs ys f) ≤ excess t → excess (readAt xs ys f) ≤ excess (readAt xs ys e))
-        → (excess t < excess (readAt xs ys e) → (f : ℕ) → Arc f → (excess t < excess (readAt xs ys f)) × (excess (readAt xs ys e) ≤ excess (readAt xs ys f)))
-        → Carries t (xsOf list) (at e)
-    arc-carries e r o g s =
-        keys-carry t (xsOf list) fits ft (at e) (omega (arith, length-xs list, arc-stands e r .0))
-        (λ h j k u. let (f, a, w) = arc-found j (omega (arith, length-xs list)) in up f a j w (λ v. g (rw (arc-stands e r .1) at h) f a v) u)
-        (λ h j k. let (f, a, w) = arc-found j (omega (arith, length-xs list)) in rw (reads f a j w, arc-stands e r .1) (s (rw (arc-stands e r .1) at h) f a))
-        (λ j k q. let (f, a, w) = arc-found j (omega (arith, arc-stands e r .0)) in once f a j w k (sym (ap excess (reads f a j w)) ∙ q ∙ ap excess (arc-stands e r .1)))
-      where
-        reads : (f : ℕ) → Arc f → (j : ℕ) → at f ≡ j → nth (xsOf list) j ≡ readAt xs ys f
-        reads f a j w = ap (nth (xsOf list)) (sym w) ∙ arc-stands f a .1
+    -- no earlier listed number is as the one at i
+    first-at : (i : ℕ) → i < n → (f : ℕ) → f < getD os i 0 → lives fs gs f ≡ true → rankAt l f ≡ rankAt l (getD os i 0) → ⊥
+    unfolding livesAt
+    first-at i h f k a q = T .ordered .first i f h k a q
 
-        fits : (j : ℕ) → j < length (xsOf list) → SFits w64 (nth (xsOf list) j)
-        fits j h = let (f, a, w) = arc-found j (omega (arith, length-xs list)) in rw (reads f a j w) (key-is f a .1)
+    -- ---- from lo to hi stand the numbers that lead from c to d
+    module _ {lo hi : ℕ} (R : Range fs gs os n c d lo hi) (ds : d < 65536) where
+      arc-at : (i : ℕ) → lo ≤ i → i < hi → Arc (getD os i 0)
+      unfolding livesAt pairAt pairOf
+      arc-at i g h =
+          let m : i < n = omega (arith, R .upto) in
+          let s : side gs fs (getD os i 0) < 65536 = side-small gs fs (getD os i 0) 65536 (T .small-b) (T .small-a) in
+          record { inside = T .ordered .inside i m; alive = T .ordered .alive i m; from = omega (arith, R .inside i g h); to = omega (arith, R .inside i g h) }
 
-        up : (f : ℕ) → Arc f → (j : ℕ) → at f ≡ j → (excess (readAt xs ys f) ≤ excess t → excess (readAt xs ys f) ≤ excess (readAt xs ys e)) → excess (nth (xsOf list) j) ≤ excess t → excess (nth (xsOf list) j) ≤ excess (nth (xsOf list) (at e))
-        up f a j w i u = rw (reads f a j w, arc-stands e r .1) (i (rw (reads f a j w) at u))
+      key-at : (i : ℕ) → lo ≤ i → i < hi → getD ks i 0 ≡ excess (readAt xs ys (getD os i 0))
+      key-at i g h = T .sorted .keys i (omega (arith, R .upto)) ∙ key-is (getD os i 0) (arc-at i g h) .0
 
-        once : (f : ℕ) → Arc f → (j : ℕ) → at f ≡ j → j < at e → excess (readAt xs ys f) ≡ excess (readAt xs ys e) → ⊥
-        once f a j w k q = go (decLt f e)
+      -- each arc has its key there
+      stands-at : (e : ℕ) → Arc e → (i : ℕ) × (lo ≤ i) × (i < hi) × (getD ks i 0 ≡ excess (readAt xs ys e))
+      unfolding livesAt rankAt pairAt
+      stands-at e r =
+          let (i, h, q) = T .ordered .covers e (r .inside) (r .alive) in
+          let s : Small (side fs gs (getD os i 0)) (side gs fs (getD os i 0)) (side (T .p) (T .q) (getD os i 0)) = number-small T i h in
+          let u = rank-same s (record { to = ds; key = key-small e r }) (q ∙ rank-is e r) in
+          let w = R .all i h (rw (u .0, u .1) refl) in
+          (i, w .0, w .1, T .sorted .keys i h ∙ u .2)
+
+      pub range-rising : Rising ks lo hi
+      unfolding rank
+      range-rising i j g h k =
+          rw (key-at i g (omega arith), key-at j (omega arith) k)
+          (key-le (excess (readAt xs ys (getD os i 0))) (excess (readAt xs ys (getD os j 0)))
+          (rw (rank-is (getD os i 0) (arc-at i g (omega arith)), rank-is (getD os j 0) (arc-at j (omega arith) k)) at (not-falling (T .ordered) i j h (omega (arith, R .upto)))))
+        where
+          key-le : (h k : ℕ) → rank c d h ≤ rank c d k → h ≤ k
+          key-le h k a = omega arith
+
+      module _ (t : ℤ) (ft : SFits w64 t) where
+        -- an arc that is as near as any in the order carries t
+        arc-carries : (e : ℕ) → Arc e
+            → ((f : ℕ) → f < e → lives fs gs f ≡ true → rankAt l f ≡ rankAt l e → ⊥)
+            → (excess (readAt xs ys e) ≤ excess t → (f : ℕ) → Arc f → excess (readAt xs ys f) ≤ excess t → excess (readAt xs ys f) ≤ excess (readAt xs ys e))
+            → (excess t < excess (readAt xs ys e) → (f : ℕ) → Arc f → (excess t < excess (readAt xs ys f)) × (excess (readAt xs ys e) ≤ excess (readAt xs ys f)))
+            → Carries t (xsOf list) (at e)
+        arc-carries e r o g s =
+            keys-carry t (xsOf list) fits ft (at e) (omega (arith, length-xs list, arc-stands e r .0))
+            (λ h j k u. let (f, a, w) = arc-found j (omega (arith, length-xs list)) in up f a j w (λ v. g (rw (arc-stands e r .1) at h) f a v) u)
+            (λ h j k. let (f, a, w) = arc-found j (omega (arith, length-xs list)) in rw (reads f a j w, arc-stands e r .1) (s (rw (arc-stands e r .1) at h) f a))
+            (λ j k q. let (f, a, w) = arc-found j (omega (arith, arc-stands e r .0)) in once f a j w k (sym (ap excess (reads f a j w)) ∙ q ∙ ap excess (arc-stands e r .1)))
           where
-            go : Dec (f < e) → ⊥
-            go (yes h) = o f h (a .alive) (rank-is f a ∙ ap (rank c d) q ∙ sym (rank-is e r))
-            go (no h) = omega (arith, at-mono f e r (omega arith) (a .inside))
+            reads : (f : ℕ) → Arc f → (j : ℕ) → at f ≡ j → nth (xsOf list) j ≡ readAt xs ys f
+            reads f a j w = ap (nth (xsOf list)) (sym w) ∙ arc-stands f a .1
 
-    arc-converts : (e : ℕ) → Arc e → Carries t (xsOf list) (at e) → carriedOver list t ≡ shiftedOf t (readAt xs ys e) (readAt ys xs e)
-    arc-converts e r k = over-list list t (omega (arith, arc-stands e r .0)) ∙ convert-at t list (at e) k ∙ rw (arc-stands e r .1, arc-stands e r .2) refl
+            fits : (j : ℕ) → j < length (xsOf list) → SFits w64 (nth (xsOf list) j)
+            fits j h = let (f, a, w) = arc-found j (omega (arith, length-xs list)) in rw (reads f a j w) (key-is f a .1)
 
-    -- ---- around the place of t's key
-    module _ {p : ℕ} (B : Between (rankAt l) os n (rank c d (excess t)) p p) where
-      small : (e : ℕ) → (side gs fs e < 65536)
-      small e = side-small gs fs e 65536 (T .small-b) (T .small-a)
+            up : (f : ℕ) → Arc f → (j : ℕ) → at f ≡ j → (excess (readAt xs ys f) ≤ excess t → excess (readAt xs ys f) ≤ excess (readAt xs ys e)) → excess (nth (xsOf list) j) ≤ excess t → excess (nth (xsOf list) j) ≤ excess (nth (xsOf list) (at e))
+            up f a j w i u = rw (reads f a j w, arc-stands e r .1) (i (rw (reads f a j w) at u))
 
-      first-at : (i : ℕ) → i < n → (f : ℕ) → f < getD os i 0 → lives fs gs f ≡ true → rankAt l f ≡ rankAt l (getD os i 0) → ⊥
-      unfolding livesAt
-      first-at i h f k a q = T .ordered .first i f h k (rw (T .same-a, T .same-b) a) q
+            once : (f : ℕ) → Arc f → (j : ℕ) → at f ≡ j → j < at e → excess (readAt xs ys f) ≡ excess (readAt xs ys e) → ⊥
+            once f a j w k q = go (decLt f e)
+              where
+                go : Dec (f < e) → ⊥
+                go (yes h) = o f h (a .alive) (rank-is f a ∙ ap (rank c d) q ∙ sym (rank-is e r))
+                go (no h) = omega (arith, at-mono f e r (omega arith) (a .inside))
 
-      -- where an arc of this rank stands
-      stands-at : (e : ℕ) → Arc e → (j : ℕ) × (j < n) × (rankAt l (getD os j 0) ≡ rank c d (excess (readAt xs ys e)))
-      unfolding livesAt
-      stands-at e r = let (j, h, q) = T .ordered .covers e (r .inside) (rw (T .same-a, T .same-b) (r .alive)) in (j, h, q ∙ rank-is e r)
+        arc-converts : (e : ℕ) → Arc e → Carries t (xsOf list) (at e) → carriedOver list t ≡ shiftedOf t (readAt xs ys e) (readAt ys xs e)
+        arc-converts e r k = over-list list t (omega (arith, arc-stands e r .0)) ∙ convert-at t list (at e) k ∙ rw (arc-stands e r .1, arc-stands e r .2) refl
 
-      arc-at : (i : ℕ) → i < n → side fs gs (getD os i 0) ≡ c → side gs fs (getD os i 0) ≡ d → Arc (getD os i 0)
-      unfolding livesAt
-      arc-at i h a b = record { inside = T .ordered .inside i h; alive = rw (T .same-a, T .same-b) at (T .ordered .alive i h); from = a; to = b }
-
-      -- what has a rank between two of c and d leads from c to d
-      caught : (i h k : ℕ) → i < n → k < 2 ^ 64 → rank c d h ≤ rankAt l (getD os i 0) → rankAt l (getD os i 0) ≤ rank c d k → (c < 65536) → (d < 65536) → (side fs gs (getD os i 0) ≡ c) × (side gs fs (getD os i 0) ≡ d)
-      unfolding rankAt rank
-      caught i h k m kk a b cc′ dd =
-          let e : ℕ = getD os i 0 in
-          let s : side (l .a) (l .b) e ≡ side fs gs e = rw (T .same-a, T .same-b) refl in
-          let u : side (l .b) (l .a) e ≡ side gs fs e = rw (T .same-a, T .same-b) refl in
-          let v : side gs fs e < 65536 = small e in
-          let j : getD os i 0 / 2 < length (linksOf fs xs gs ys) = omega (arith, T .ordered .inside i m) in
-          let w : side (l .p) (l .q) e < 2 ^ 64 = side-below (l .p) (l .q) e (2 ^ 64) (key-below (T .keyed-x) (e / 2) j) (key-below (T .keyed-y) (e / 2) j) in
-          (omega arith, omega arith)
-
-      -- ranks of c and d are in the order of the keys
-      key-le : (h k : ℕ) → rank c d h ≤ rank c d k → h ≤ k
-      unfolding rank
-      key-le h k a = omega arith
-
-      key-lt : (h k : ℕ) → rank c d h < rank c d k → h < k
-      unfolding rank
-      key-lt h k a = omega arith
-
-      le-key : (h k : ℕ) → h ≤ k → rank c d h ≤ rank c d k
-      unfolding rank
-      le-key h k a = omega arith
-
-      module _ (cs : c < 65536) (ds : d < 65536) where
-        -- the tests of the two numbers around p
-        abbrev pub Joins : ℕ → Bool
-        Joins i = eqb (side fs gs (getD os i 0)) c && eqb (side gs fs (getD os i 0)) d
-
-        joins-yes : (i : ℕ) → Joins i ≡ true → (side fs gs (getD os i 0) ≡ c) × (side gs fs (getD os i 0) ≡ d)
-        joins-yes i e = (eqb-true (side fs gs (getD os i 0)) c (and-left (eqb (side fs gs (getD os i 0)) c) (eqb (side gs fs (getD os i 0)) d) e), eqb-true (side gs fs (getD os i 0)) d (and-right (eqb (side fs gs (getD os i 0)) c) (eqb (side gs fs (getD os i 0)) d) e))
-
-        joins-no : (b : Bool) (i : ℕ) → b ≡ true → (b && Joins i) ≡ false → side fs gs (getD os i 0) ≡ c → side gs fs (getD os i 0) ≡ d → ⊥
-        joins-no b i h e p q = true≢false (sym (rw (h, eq-eqb (side fs gs (getD os i 0)) c p, eq-eqb (side gs fs (getD os i 0)) d q) refl) ∙ e)
-
-        -- the number before p leads from c to d: it has the greatest x at most t
-        pub chosen-before : 0 < p → side fs gs (getD os (p - 1) 0) ≡ c → side gs fs (getD os (p - 1) 0) ≡ d
-            → carriedOver list t ≡ shiftedOf t (readAt xs ys (getD os (p - 1) 0)) (readAt ys xs (getD os (p - 1) 0))
-        chosen-before h a b = arc-converts e r (arc-carries e r (first-at (p - 1) k) greatest (λ z. absurd (omega (arith, mine))))
+        -- what the search chooses carries t
+        range-some : lo < hi → carriedOver list t ≡ shiftedOf t (readAt xs ys (getD os (chosen ks lo hi (excess t)) 0)) (readAt ys xs (getD os (chosen ks lo hi (excess t)) 0))
+        range-some h = arc-converts e r (arc-carries e r (first-at j (omega (arith, R .upto, b))) greatest smallest)
           where
+            j : ℕ
+            j = chosen ks lo hi (excess t)
+
             e : ℕ
-            e = getD os (p - 1) 0
+            e = getD os j 0
 
-            k : p - 1 < n
-            k = omega (arith, B .upto)
+            a : lo ≤ j
+            a = chosen-low ks lo hi (excess t)
+
+            b : j < hi
+            b = chosen-high ks lo hi (excess t) h
 
             r : Arc e
-            r = arc-at (p - 1) k a b
+            r = arc-at j a b
 
-            mine : excess (readAt xs ys e) ≤ excess t
-            mine = key-le (excess (readAt xs ys e)) (excess t) (rw (rank-is e r) at (B .under (p - 1) (omega arith)))
+            mine : getD ks j 0 ≡ excess (readAt xs ys e)
+            mine = key-at j a b
+
+            -- what stands after it is more than t
+            more : (i : ℕ) → j < i → i < hi → excess t < getD ks i 0
+            more i g m = go (decLt (excess t) (getD ks i 0))
+              where
+                go : Dec (excess t < getD ks i 0) → excess t < getD ks i 0
+                go (yes s) = s
+                go (no s) = absurd (omega (arith, chosen-from ks lo hi (excess t) i range-rising (omega (arith, a)) m (omega arith)))
 
             greatest : excess (readAt xs ys e) ≤ excess t → (f : ℕ) → Arc f → excess (readAt xs ys f) ≤ excess t → excess (readAt xs ys f) ≤ excess (readAt xs ys e)
-            greatest m f s u = let (j, i, q) = stands-at f s in go j i q (decLt j p)
+            greatest m f s u = let (i, g, k, q) = stands-at f s in go i g k q (decLt j i)
               where
-                go : (j : ℕ) → j < n → rankAt l (getD os j 0) ≡ rank c d (excess (readAt xs ys f)) → Dec (j < p) → excess (readAt xs ys f) ≤ excess (readAt xs ys e)
-                go j i q (yes z) = key-le (excess (readAt xs ys f)) (excess (readAt xs ys e)) (rw (q, rank-is e r) at (not-falling (T .ordered) j (p - 1) (omega arith) k))
-                go j i q (no z) = absurd (omega (arith, B .over j (omega arith) i, le-key (excess (readAt xs ys f)) (excess t) u))
-
-        -- the number before p doesn't, or there is none
-        abbrev Apart : Type 0
-        Apart = (0 < p) → side fs gs (getD os (p - 1) 0) ≡ c → side gs fs (getD os (p - 1) 0) ≡ d → ⊥
-
-        -- then no correspondence of c and d stands before p
-        none-before : Apart → (f : ℕ) → Arc f → (j : ℕ) → j < n → rankAt l (getD os j 0) ≡ rank c d (excess (readAt xs ys f)) → j < p → ⊥
-        none-before w f s j i q z =
-            let u = caught (p - 1) (excess (readAt xs ys f)) (excess t) (omega (arith, B .upto)) (excess-lt t ft) (rw q at (not-falling (T .ordered) j (p - 1) (omega arith) (omega (arith, B .upto)))) (B .under (p - 1) (omega arith)) cs ds in
-            w (omega arith) (u .0) (u .1)
-
-        -- and the number at p, if it leads from c to d, has the smallest x
-        pub chosen-at : Apart → p < n → side fs gs (getD os p 0) ≡ c → side gs fs (getD os p 0) ≡ d
-            → carriedOver list t ≡ shiftedOf t (readAt xs ys (getD os p 0)) (readAt ys xs (getD os p 0))
-        chosen-at w k a b = arc-converts e r (arc-carries e r (first-at p k) (λ z. absurd (omega (arith, mine))) smallest)
-          where
-            e : ℕ
-            e = getD os p 0
-
-            r : Arc e
-            r = arc-at p k a b
-
-            mine : excess t < excess (readAt xs ys e)
-            mine = key-lt (excess t) (excess (readAt xs ys e)) (rw (rank-is e r) at (B .over p (omega arith) k))
+                go : (i : ℕ) → lo ≤ i → i < hi → getD ks i 0 ≡ excess (readAt xs ys f) → Dec (j < i) → excess (readAt xs ys f) ≤ excess (readAt xs ys e)
+                go i g k q (yes z) = absurd (omega (arith, more i z k))
+                go i g k q (no z) = omega (arith, mine, range-rising i j g (omega arith) b)
 
             smallest : excess t < excess (readAt xs ys e) → (f : ℕ) → Arc f → (excess t < excess (readAt xs ys f)) × (excess (readAt xs ys e) ≤ excess (readAt xs ys f))
-            smallest m f s = let (j, i, q) = stands-at f s in go j i q (decLt j p)
+            smallest m f s = let (i, g, k, q) = stands-at f s in go i g k q (decLt lo j)
               where
-                go : (j : ℕ) → j < n → rankAt l (getD os j 0) ≡ rank c d (excess (readAt xs ys f)) → Dec (j < p) → (excess t < excess (readAt xs ys f)) × (excess (readAt xs ys e) ≤ excess (readAt xs ys f))
-                go j i q (yes z) = absurd (none-before w f s j i q z)
-                go j i q (no z) =
-                    let v : excess (readAt xs ys e) ≤ excess (readAt xs ys f) = key-le (excess (readAt xs ys e)) (excess (readAt xs ys f)) (rw (q, rank-is e r) at (not-falling (T .ordered) p j (omega arith) i)) in
-                    (omega arith, v)
+                go : (i : ℕ) → lo ≤ i → i < hi → getD ks i 0 ≡ excess (readAt xs ys f) → Dec (lo < j) → (excess t < excess (readAt xs ys f)) × (excess (readAt xs ys e) ≤ excess (readAt xs ys f))
+                go i g k q (yes z) = absurd (omega (arith, chosen-before ks lo hi (excess t) j z (omega (arith, mine))))
+                go i g k q (no z) = let v : getD ks j 0 ≤ getD ks i 0 = range-rising j i a (omega arith) k in (omega (arith, mine), omega (arith, mine))
 
-        -- neither: the pair has no list
-        pub chosen-none : Apart → ((p < n) → side fs gs (getD os p 0) ≡ c → side gs fs (getD os p 0) ≡ d → ⊥) → carriedOver list t ≡ In t
-        chosen-none w v = over-none list t (empty list (λ h. let (f, s, q) = arc-found 0 h in let (j, i, u) = stands-at f s in go f s j i u (decLt j p)))
+        -- none: the two clocks have no list
+        range-none : hi ≤ lo → carriedOver list t ≡ In t
+        range-none g = over-none list t (empty list (λ h. let (f, s, q) = arc-found 0 h in let (i, a, b, u) = stands-at f s in omega arith))
           where
             empty : (ps : List Pair) → (0 < length ps → ⊥) → ps ≡ []
             empty [] h = refl
             empty (q ∷ ps) h = absurd (h (omega arith))
 
-            go : (f : ℕ) → Arc f → (j : ℕ) → j < n → rankAt l (getD os j 0) ≡ rank c d (excess (readAt xs ys f)) → Dec (j < p) → ⊥
-            go f s j i q (yes z) = none-before w f s j i q z
-            go f s j i q (no z) =
-                let o : rank c d (excess t) < rankAt l (getD os p 0) = B .over p (omega arith) (omega arith) in
-                let u = caught p (excess t) (excess (readAt xs ys f)) (omega arith) (key-small f s) (omega arith) (rw q at (not-falling (T .ordered) p j (omega arith) i)) cs ds in
-                v (omega arith) (u .0) (u .1)
-
-        -- the three by the tests
-        pub over-before : (ltb 0 p && Joins (p - 1)) ≡ true → carriedOver list t ≡ shiftedOf t (readAt xs ys (getD os (p - 1) 0)) (readAt ys xs (getD os (p - 1) 0))
-        over-before e = let u = joins-yes (p - 1) (and-right (ltb 0 p) (Joins (p - 1)) e) in chosen-before (ltb-true 0 p (and-left (ltb 0 p) (Joins (p - 1)) e)) (u .0) (u .1)
-
-        pub over-at : (ltb 0 p && Joins (p - 1)) ≡ false → (ltb p n && Joins p) ≡ true → carriedOver list t ≡ shiftedOf t (readAt xs ys (getD os p 0)) (readAt ys xs (getD os p 0))
-        over-at w e = let u = joins-yes p (and-right (ltb p n) (Joins p) e) in chosen-at (λ h. joins-no (ltb 0 p) (p - 1) (lt-ltb 0 p h) w) (ltb-true p n (and-left (ltb p n) (Joins p) e)) (u .0) (u .1)
-
-        pub over-neither : (ltb 0 p && Joins (p - 1)) ≡ false → (ltb p n && Joins p) ≡ false → carriedOver list t ≡ In t
-        over-neither w v = chosen-none (λ h. joins-no (ltb 0 p) (p - 1) (lt-ltb 0 p h) w) (λ h. joins-no (ltb p n) p (lt-ltb p n h) v)
-
-pub tables-kept : {fs : List ℕ} {xs : List ℤ} {gs : List ℕ} {ys : List ℤ} {l : Lists} {os : List ℕ} {n : ℕ} → Tables fs xs gs ys l os n → Kept l os n
-tables-kept {fs} {xs} {gs} {ys} T = record {
-  m = 2 * length (linksOf fs xs gs ys);
-  ordered = T .ordered;
-  long = record { a = omega (arith, T .long .a); p = omega (arith, T .long .p); b = omega (arith, T .long .b); q = omega (arith, T .long .q) };
-  room = T .room;
-}
+        pub range-carries : carriedIn xs ys ks os lo hi t ≡ carriedOver list t
+        range-carries = go (decLt lo hi)
+          where
+            go : Dec (lo < hi) → carriedIn xs ys ks os lo hi t ≡ carriedOver list t
+            go (yes h) = in-some xs ys ks os lo hi t h _ refl ∙ sym (range-some h)
+            go (no h) = in-none xs ys ks os lo hi t (omega arith) ∙ sym (range-none (omega arith))
 
 -- what a number of the order names is at hand
-pub tables-reach : {fs : List ℕ} {xs : List ℤ} {gs : List ℕ} {ys : List ℤ} {l : Lists} {os : List ℕ} {n : ℕ} (T : Tables fs xs gs ys l os n) (i : ℕ) → i < n
+pub tables-reach : {fs : List ℕ} {xs : List ℤ} {gs : List ℕ} {ys : List ℤ} {os ks : List ℕ} {n : ℕ} (T : Tables fs xs gs ys os ks n) (i : ℕ) → i < n
     → (getD os i 0 / 2 < length fs) × (getD os i 0 / 2 < length xs) × (getD os i 0 / 2 < length gs) × (getD os i 0 / 2 < length ys)
 tables-reach {fs} {xs} {gs} {ys} T i h =
     let e = T .ordered .inside i h in
     let m = links-most fs xs gs ys in
     (omega (arith, e, m .0), omega (arith, e, m .1), omega (arith, e, m .2), omega (arith, e, m .3))
 
-pub first-of : (p : ℕ) (b : Bool) → (ltb 0 p && b) ≡ true → 0 < p
-first-of p b e = ltb-true 0 p (and-left (ltb 0 p) b e)
+pub tables-grouped : {fs : List ℕ} {xs : List ℤ} {gs : List ℕ} {ys : List ℤ} {os ks : List ℕ} {n : ℕ} → Tables fs xs gs ys os ks n → Grouped fs gs os n
+unfolding rankAt rank pairAt pairOf
+tables-grouped T = record {
+  steady = λ i j h k. omega (arith, not-falling (T .ordered) i j h k, number-small T i (omega arith) .key, number-small T j k .key);
+  reach = λ i h. let m = tables-reach T i h in (m .0, m .2);
+  room = T .room;
+}
 
-pub below-of : (p n : ℕ) (b : Bool) → (ltb p n && b) ≡ true → p < n
-below-of p n b e = ltb-true p n (and-left (ltb p n) b e)
+pub tables-search : {fs : List ℕ} {xs : List ℤ} {gs : List ℕ} {ys : List ℤ} {os ks : List ℕ} {n c d lo hi : ℕ} (T : Tables fs xs gs ys os ks n) → Range fs gs os n c d lo hi → d < 65536 → Searchable xs ys ks os lo hi
+tables-search {fs} {xs} {gs} {ys} {c = c} {d = d} T R ds = record {
+  keys = omega (arith, T .sorted .room, R .upto);
+  order = omega (arith, T .room, R .upto);
+  reach = λ i g h. let m = tables-reach T i (omega (arith, R .upto)) in (m .1, m .3);
+  rising = range-rising fs xs gs ys c d T R ds;
+}
 
-pub tables-of : (fs : List ℕ) (xs : List ℤ) (gs : List ℕ) (ys : List ℤ) {l : Lists} {os : List ℕ} {n k : ℕ} → k ≡ length (linksOf fs xs gs ys) → l .a ≡ fs → l .b ≡ gs
-    → ((i : ℕ) → getD fs i 0 < 65536) → ((i : ℕ) → getD gs i 0 < 65536) → Keyed xs k (l .p) → Keyed ys k (l .q) → Ordered (rankAt l) (livesAt l) os n (2 * k) → Long l k → n ≤ length os
-    → Tables fs xs gs ys l os n
-tables-of fs xs gs ys e p q a b x y o g r = record { same-a = p; same-b = q; small-a = a; small-b = b; keyed-x = rw e at x; keyed-y = rw e at y; ordered = rw e at o; long = rw e at g; room = r }
+pub tables-of : (fs : List ℕ) (xs : List ℤ) (gs : List ℕ) (ys : List ℤ) {p q os ks : List ℕ} {n k : ℕ} → k ≡ length (linksOf fs xs gs ys)
+    → ((i : ℕ) → getD fs i 0 < 65536) → ((i : ℕ) → getD gs i 0 < 65536) → Keyed xs k p → Keyed ys k q
+    → Ordered (rankAt (record { a = fs; p = p; b = gs; q = q })) (livesAt (record { a = fs; p = p; b = gs; q = q })) os n (2 * k) → Sorted p q os n ks → n ≤ length os
+    → Tables fs xs gs ys os ks n
+tables-of fs xs gs ys {p} {q} e a b x y o s r =
+    record { p = p; q = q; small-a = a; small-b = b; keyed-x = rw e at x; keyed-y = rw e at y; ordered = rw e at o; sorted = s; room = r }

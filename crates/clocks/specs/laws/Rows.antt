@@ -1,6 +1,6 @@
 -- The rows of three numbers that hold the answers, graph by graph. Assumes nothing.
 use mathlib.Core.Path.{_≡_, refl, sym, ap, _∙_}
-use mathlib.Core.Bool.{Bool, true, false, cond, _&&_}
+use mathlib.Core.Bool.{Bool, true, false, cond, not, _&&_, true≢false}
 use mathlib.Core.List.{List, [], _∷_, _++_, map}
 use Prim.Native.Nat.{ℕ, zero, suc, _+_, _*_, _-_, _≤_, _<_, zero-le}
 use native.Mathlib.Nat.{not-suc-le-zero, le-antisymm}
@@ -22,12 +22,11 @@ use Rattle.whole.specs.declared.Sum.{Sum}
 use Rattle.whole.specs.declared.Sum.the-variants.{In, Out}
 use Rattle.whole.specs.Pairs.{nth}
 use Rattle.paths.specs.Matrix.{distances, nexts}
-use Rattle.graphs.specs.Links.{Link}
 use Rattle.graphs.specs.Graphs.{World, graph}
 use Rattle.clocks.specs.declared.Answer.{Answer}
 use Rattle.clocks.specs.declared.Answer.the-variants.{Placed, Dropped}
 use Rattle.clocks.specs.Answers.{most, fits, filled, Room, ended, placed, related, answerOf, answersOf, timeOf, kindOf, stepsOf, unrelated, padded}
-use Rattle.clocks.specs.laws.Walk.{hasPath, placedBy, path-related, placed-by}
+use Rattle.clocks.specs.laws.Walk.{Agrees, hasPath, placedBy, path-related, placed-by}
 
 pub record Row : Type 0 where
   pub time : ℤ
@@ -48,8 +47,8 @@ abbrev pub pending : ℕ
 pending = 4
 
 -- a row, once graph g has been tried
-unfoldable pub tried : ℕ → List Link → List ℕ → List ℕ → ℕ → ℤ → Row → Row
-tried g ls ds ns c t r = cond (eqb (r .kind) pending && hasPath ds c) (rowOf (placedBy g ls ds ns c t)) r
+unfoldable pub tried : ℕ → (ℕ → ℤ → Sum) → List ℕ → List ℕ → ℕ → ℤ → Row → Row
+tried g f ds ns c t r = cond (eqb (r .kind) pending && hasPath ds c) (rowOf (placedBy g f ds ns c t)) r
 
 -- the events' lists and their memories go as far as n
 pub record Spacious (n : ℕ) (cs : List ℕ) (rs : List ℤ) (ts : List ℤ) (ks ss : List ℕ) : Type 0 where
@@ -101,38 +100,42 @@ module _ {f : ℕ → Row → Row} {ts₀ : List ℤ} {ks₀ ss₀ : List ℕ} {
   pub pass-kind-at : getD ks i 0 ≡ getD ks₀ i 0
   pass-kind-at = ap (λ (r : Row). r .kind) (p .rest i (omega arith))
 
-pub tried-other : (g : ℕ) (ls : List Link) (ds ns : List ℕ) (c : ℕ) (t : ℤ) (r : Row) → (r .kind ≡ pending → ⊥) → tried g ls ds ns c t r ≡ r
+pub tried-other : (g : ℕ) (f : ℕ → ℤ → Sum) (ds ns : List ℕ) (c : ℕ) (t : ℤ) (r : Row) → (r .kind ≡ pending → ⊥) → tried g f ds ns c t r ≡ r
 unfolding tried
-tried-other g ls ds ns c t r n = rw (ne-eqb (r .kind) pending n) refl
+tried-other g f ds ns c t r n = rw (ne-eqb (r .kind) pending n) refl
 
-pub tried-none : (g : ℕ) (ls : List Link) (ds ns : List ℕ) (c : ℕ) (t : ℤ) (r : Row) → hasPath ds c ≡ false → tried g ls ds ns c t r ≡ r
+pub tried-none : (g : ℕ) (f : ℕ → ℤ → Sum) (ds ns : List ℕ) (c : ℕ) (t : ℤ) (r : Row) → hasPath ds c ≡ false → tried g f ds ns c t r ≡ r
 unfolding tried
-tried-none g ls ds ns c t r n = rw (n, none (eqb (r .kind) pending)) refl
+tried-none g f ds ns c t r n = rw (n, none (eqb (r .kind) pending)) refl
   where
     none : (b : Bool) → (b && false) ≡ false
     none true = refl
     none false = refl
 
-pub tried-new : (g : ℕ) (ls : List Link) (ds ns : List ℕ) (c : ℕ) (t : ℤ) (r : Row) → r .kind ≡ pending → hasPath ds c ≡ true → tried g ls ds ns c t r ≡ rowOf (placedBy g ls ds ns c t)
+pub tried-new : (g : ℕ) (f : ℕ → ℤ → Sum) (ds ns : List ℕ) (c : ℕ) (t : ℤ) (r : Row) → r .kind ≡ pending → hasPath ds c ≡ true → tried g f ds ns c t r ≡ rowOf (placedBy g f ds ns c t)
 unfolding tried
-tried-new g ls ds ns c t r e h = rw (eq-eqb (r .kind) pending e, h) refl
+tried-new g f ds ns c t r e h = rw (eq-eqb (r .kind) pending e, h) refl
 
 -- ---- the three graphs one after the other
 -- a row that has no answer yet, once graph g of w has been tried
 unfoldable pub triedIn : ℕ → World → ℕ → ℤ → Row → Row
 triedIn g w c t r = cond (eqb (r .kind) pending && related g w c) (rowOf (placed g w c t)) r
 
-pub tried-in : (g : ℕ) (w : World) (c : ℕ) (t : ℤ) (r : Row) → SFits w64 t → tried g (w .links) (distances (graph g w)) (nexts (graph g w)) c t r ≡ triedIn g w c t r
+pub tried-in : (g : ℕ) (w : World) (f : ℕ → ℤ → Sum) → Agrees f (w .links) (nexts (graph g w)) → (c : ℕ) (t : ℤ) (r : Row) → SFits w64 t → tried g f (distances (graph g w)) (nexts (graph g w)) c t r ≡ triedIn g w c t r
 unfolding tried triedIn
-tried-in g w c t r f = rw (path-related g w c) (go (related g w c) refl)
+tried-in g w f a c t r s = rw (path-related g w c) (go (related g w c) refl)
   where
-    go : (b : Bool) → related g w c ≡ b → cond (eqb (r .kind) pending && related g w c) (rowOf (placedBy g (w .links) (distances (graph g w)) (nexts (graph g w)) c t)) r ≡ cond (eqb (r .kind) pending && related g w c) (rowOf (placed g w c t)) r
-    go true e = rw (placed-by g w c t f e) refl
+    go : (b : Bool) → related g w c ≡ b → cond (eqb (r .kind) pending && related g w c) (rowOf (placedBy g f (distances (graph g w)) (nexts (graph g w)) c t)) r ≡ cond (eqb (r .kind) pending && related g w c) (rowOf (placed g w c t)) r
+    go true e = rw (placed-by g w c f a t s e) refl
     go false e = rw (e, none (eqb (r .kind) pending)) refl
       where
         none : (b : Bool) → (b && false) ≡ false
         none true = refl
         none false = refl
+
+tried-in-other : (g : ℕ) (w : World) (c : ℕ) (t : ℤ) (r : Row) → (r .kind ≡ pending → ⊥) → triedIn g w c t r ≡ r
+unfolding triedIn
+tried-in-other g w c t r n = rw (ne-eqb (r .kind) pending n) refl
 
 -- a placed or dropped event is no longer pending
 kind-some : (g n : ℕ) (s : Sum) → g < 4 → kindOf (ended g n s) ≡ pending → ⊥
@@ -188,6 +191,17 @@ mark-more {ks₀} {ks} {i} m h = record {
   done = below-more _ i (λ j l. getD-set-other ks i j pending 0 (λ q. omega arith) ∙ m .done j l) (getD-set-same ks i pending 0 (omega (arith, m .same)));
   rest = λ j l. getD-set-other ks i j pending 0 (λ q. omega arith) ∙ m .rest j (omega arith);
 }
+
+-- no kind below n is pending
+pub record Settled (ks : List ℕ) (n : ℕ) : Type 0 where
+  pub none : (j : ℕ) → j < n → getD ks j 0 ≡ pending → ⊥
+
+pub settled-more : {ks : List ℕ} {i : ℕ} → Settled ks i → (getD ks i 0 ≡ pending → ⊥) → Settled ks (i + 1)
+settled-more {i = i} s n = record { none = below-more _ i (s .none) n }
+
+pub settled-if : {ks : List ℕ} {n : ℕ} (b : Bool) → (b ≡ false → Settled ks n) → not b ≡ true → Settled ks n
+settled-if true s e = absurd (true≢false (sym e))
+settled-if false s e = s refl
 
 -- ---- from rows to the lists of the answers
 module _ (w : World) where
@@ -247,15 +261,15 @@ module _ (w : World) where
                 ∙ ap (λ (i : ℕ). getD (padded z room (map f (answersOf w cs ts))) i z) q
 
 -- a pass by the tables of a graph is a pass by the graph
-pub passed-in : {ts₀ : List ℤ} {ks₀ ss₀ : List ℕ} {ts : List ℤ} {ks ss : List ℕ} {n : ℕ} (g : ℕ) (w : World) (ds ns cs : List ℕ) (rs : List ℤ)
-    → ds ≡ distances (graph g w) → ns ≡ nexts (graph g w) → ((j : ℕ) → j < n → SFits w64 (nth rs j))
-    → Passed (λ j r. tried g (w .links) ds ns (getD cs j 0) (nth rs j) r) ts₀ ks₀ ss₀ ts ks ss n
+pub passed-in : {ts₀ : List ℤ} {ks₀ ss₀ : List ℕ} {ts : List ℤ} {ks ss : List ℕ} {n : ℕ} (g : ℕ) (w : World) (f : ℕ → ℤ → Sum) (ds ns cs : List ℕ) (rs : List ℤ)
+    → Agrees f (w .links) ns → ds ≡ distances (graph g w) → ns ≡ nexts (graph g w) → ((j : ℕ) → j < n → SFits w64 (nth rs j))
+    → Passed (λ j r. tried g f ds ns (getD cs j 0) (nth rs j) r) ts₀ ks₀ ss₀ ts ks ss n
     → Passed (λ j r. triedIn g w (getD cs j 0) (nth rs j) r) ts₀ ks₀ ss₀ ts ks ss n
-passed-in g w ds ns cs rs e q f p = record {
+passed-in g w f ds ns cs rs a e q s p = record {
   times = p .times;
   kinds = p .kinds;
   steps = p .steps;
-  done = λ j l. p .done j l ∙ (rw (e, q) (tried-in g w (getD cs j 0) (nth rs j) _ (f j l)));
+  done = λ j l. p .done j l ∙ (rw (e, q) (tried-in g w f (rw q at a) (getD cs j 0) (nth rs j) _ (s j l)));
   rest = p .rest;
 }
 
@@ -284,6 +298,16 @@ up-suc g w c t h = let e : g + 1 ≡ suc g = omega arith in rw (e, ne-eqb g 0 (�
 up-four : (g : ℕ) (w : World) (c : ℕ) (t : ℤ) → g ≡ 4 → upTo g w c t ≡ rowOf (answerOf w c t)
 unfolding upTo
 up-four g w c t e = rw e (all-tried w c t)
+
+-- a row that is not pending stays, whatever graphs come
+up-stays : (g : ℕ) (w : World) (c : ℕ) (t : ℤ) → 0 < g → (upTo g w c t .kind ≡ pending → ⊥) → upTo (g + 1) w c t ≡ upTo g w c t
+up-stays g w c t h n = up-suc g w c t h ∙ tried-in-other g w c t (upTo g w c t) n
+
+up-settled : (k g : ℕ) (w : World) (c : ℕ) (t : ℤ) → g + k ≡ 4 → 0 < g → (upTo g w c t .kind ≡ pending → ⊥) → upTo g w c t ≡ rowOf (answerOf w c t)
+up-settled zero g w c t e h n = up-four g w c t (omega arith)
+up-settled (suc k) g w c t e h n =
+    let s = up-stays g w c t h n in
+    sym s ∙ up-settled k (g + 1) w c t (omega arith) (omega arith) (λ q. n (ap (λ (r : Row). r .kind) (sym s) ∙ q))
 
 -- the rows once graphs 1 to g - 1 have been tried
 pub record Reached (w : World) (cs : List ℕ) (rs : List ℤ) (n : ℕ) (ts₀ : List ℤ) (ks₀ ss₀ : List ℕ) (ts : List ℤ) (ks ss : List ℕ) (g : ℕ) : Type 0 where
@@ -323,14 +347,29 @@ module _ {w : World} {cs : List ℕ} {rs : List ℤ} {n : ℕ} {ts₀ : List ℤ
       up-more : (g c : ℕ) (t : ℤ) → 0 < g → upTo (g + 1) w c t ≡ triedIn g w c t (upTo g w c t)
       up-more g c t h = up-suc g w c t h
 
-  pub reach-end : {ks₁ : List ℕ} {ts : List ℤ} {ks ss : List ℕ} {g : ℕ} → Reached w cs rs n ts₀ ks₁ ss₀ ts ks ss g → 4 ≤ g → Marked ks₀ ks₁ n → Answered w cs rs n ts₀ ks₀ ss₀ ts ks ss
-  reach-end {g = g} r h m = record {
+  -- all three graphs have been tried
+  pub reach-end : {ts : List ℤ} {ks ss : List ℕ} {g : ℕ} → Reached w cs rs n ts₀ ks₀ ss₀ ts ks ss g → 4 ≤ g → Answered w cs rs n ts₀ ks₀ ss₀ ts ks ss
+  reach-end {g = g} r h = record {
     times = r .times;
-    kinds = r .kinds ∙ m .same;
+    kinds = r .kinds;
     steps = r .steps;
     done = λ j l. r .done j l ∙ up-four g w (getD cs j 0) (nth rs j) (omega (arith, r .high));
     rest = r .rest;
   }
+
+  -- or no row is pending
+  pub reach-settled : {ts : List ℤ} {ks ss : List ℕ} {g : ℕ} → Reached w cs rs n ts₀ ks₀ ss₀ ts ks ss g → Settled ks n → Answered w cs rs n ts₀ ks₀ ss₀ ts ks ss
+  reach-settled {g = g} r s = record {
+    times = r .times;
+    kinds = r .kinds;
+    steps = r .steps;
+    done = λ j l. r .done j l ∙ up-settled (4 - g) g w (getD cs j 0) (nth rs j) (omega (arith, r .high)) (r .low) (λ q. s .none j l (ap (λ (x : Row). x .kind) (r .done j l) ∙ q));
+    rest = r .rest;
+  }
+
+  -- the kinds had been marked before
+  pub answered-marked : {ks₁ : List ℕ} {ts : List ℤ} {ks ss : List ℕ} → Answered w cs rs n ts₀ ks₁ ss₀ ts ks ss → Marked ks₀ ks₁ n → Answered w cs rs n ts₀ ks₀ ss₀ ts ks ss
+  answered-marked a m = record { times = a .times; kinds = a .kinds ∙ m .same; steps = a .steps; done = a .done; rest = a .rest }
 
 -- ---- the whole
 module _ {w : World} {cs : List ℕ} {rs : List ℤ} {n : ℕ} {ts₀ : List ℤ} {ks₀ ss₀ : List ℕ} {ts : List ℤ} {ks ss : List ℕ} (e : n ≡ length (answersOf w cs rs)) (a : Answered w cs rs n ts₀ ks₀ ss₀ ts ks ss) where

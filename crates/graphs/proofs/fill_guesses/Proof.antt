@@ -1,70 +1,59 @@
--- `graphs::fill_guesses` meets its contract: the cells passed are the guesses (`Filled`).
-use lib.Dec.{ltb}
-use Prim.Native.Nat.{_-_, _*_, _≤_}
-use mathlib.Core.List.{[]}
-use Rattle.numbers.specs.Numbers.{clocks}
-use Rattle.graphs.specs.Links.{linksOf}
-use Rattle.graphs.specs.Graphs.{worldOf, guess, to-trace}
-use Rattle.graphs.specs.laws.Matrix.{Filled, fill-more, fill-done, bit-is}
+-- `graphs::fill_guesses` meets its contract: what is joined after the matrix was cleared are the guesses, of graph 1, 2 or 3.
+use Prim.Native.Nat.{ℕ}
+use mathlib.Core.Path.{ap, _∙_}
 use native.Mathlib.Omega.{arith}
-use mathlib.Core.Path.{sym, ap, _∙_}
+use borrow.Author.Needs.{needs}
+use lib.ListN.{replicate}
+use Rattle.graphs.specs.laws.Guesses.{guess-none, guess-domains, guess-files}
 use Rattle.graphs.proofs.fill_guesses.Statement.{statement}
 use Rattle.graphs.proofs.fill_guesses.Tie as tie
 
-abbrev Inv-loop : tie.InvT-loop
-Inv-loop g machines files pinned trace matrix₀ i₀ matrix i = Filled (guess g (worldOf [] [] [] [] machines files pinned trace)) matrix i × (i ≤ clocks * clocks)
+clear-requires : tie.Need-clear-requires
+clear-requires c κs = search needs
 
-abbrev μ-loop : tie.MeasureT-loop
-μ-loop g machines files pinned trace matrix₀ i₀ matrix i = clocks * clocks - i
+same-length : tie.Need-same-length
+same-length c = search needs
 
-loop-holds : tie.Need-loop-holds Inv-loop μ-loop
-loop-holds c = (record { room = c .before .pre; cells = λ j l. absurd (omega arith) }, omega arith)
+returns : tie.Need-returns
+returns c =
+    let a = c .before .before .before .before .before .before .args in
+    let z = c .before .before .before .clear .ensures ∙ ap (λ (n : ℕ). replicate n 0) (c .before .before .before .before .before .before .pre) in
+    guess-none (a .machines) (a .files) (a .pinned) (a .trace) (a .g) _ z (c .if1 .taken)
 
-cast-c : tie.Need-cast-c Inv-loop μ-loop
-cast-c c = omega arith
+join-machines-requires : tie.Need-join-machines-requires
+join-machines-requires c κs = search needs
 
-cast-d : tie.Need-cast-d Inv-loop μ-loop
-cast-d c = omega arith
+same-length-2 : tie.Need-same-length-2
+same-length-2 c = search needs
 
-guess-requires : tie.Need-guess-requires Inv-loop μ-loop
-guess-requires c κs = tt
+returns-2 : tie.Need-returns-2
+returns-2 c =
+    let a = c .before .before .before .before .before .before .before .before .before .before .before .args in
+    let z = c .before .before .before .before .before .before .before .before .clear .ensures ∙ ap (λ (n : ℕ). replicate n 0) (c .before .before .before .before .before .before .before .before .before .before .before .pre) in
+    guess-domains (a .machines) (a .files) (a .pinned) (a .trace) (a .g) _ z (c .before .before .before .before .before .if1 .left) (c .if2 .taken) (c .before .before .before .join-machines .ensures)
 
-bit-requires : tie.Need-bit-requires Inv-loop μ-loop
-bit-requires c κs = tt
+join-files-requires : tie.Need-join-files-requires
+join-files-requires c κs = search needs
 
-slice-write-matrix : tie.Need-slice-write-matrix Inv-loop μ-loop
-slice-write-matrix c = omega (arith, c .before .before .before .loop .inv .0 .room)
+same-length-3 : tie.Need-same-length-3
+same-length-3 c = search needs
 
-add-i : tie.Need-add-i Inv-loop μ-loop
-add-i c = omega arith
-
-loop-less : tie.Need-loop-less Inv-loop μ-loop
-loop-less c = omega arith
-
-loop-again : tie.Need-loop-again Inv-loop μ-loop
-unfolding guess to-trace linksOf
-loop-again c = (fill-more _ (c .before .before .before .loop .inv .0) (omega arith) (ap (ltb 0) (c .bit .ensures) ∙ bit-is _ ∙ c .before .guess .ensures), omega arith)
-
-same-length : tie.Need-same-length Inv-loop μ-loop
-same-length c = c .before .loop .inv .0 .room ∙ sym (c .before .before .before .pre)
-
-returns : tie.Need-returns Inv-loop μ-loop
-returns c = fill-done (c .before .loop .inv .0) (omega arith)
+returns-3 : tie.Need-returns-3
+returns-3 c =
+    let a = c .before .before .before .before .before .before .before .before .before .before .before .before .before .before .before .args in
+    let z = c .before .before .before .before .before .before .before .before .before .before .before .before .clear .ensures ∙ ap (λ (n : ℕ). replicate n 0) (c .before .before .before .before .before .before .before .before .before .before .before .before .before .before .before .pre) in
+    guess-files (a .machines) (a .files) (a .pinned) (a .trace) (a .g) _ z (c .before .before .before .before .if2 .left) (c .before .before .before .before .before .before .before .join-machines .ensures) (c .before .before .join-files .ensures)
 
 pub fill-guesses-spec : {M : Type 1} → statement M
 fill-guesses-spec =
     tie.close
     (tie.spec
-    Inv-loop
-    μ-loop
-    loop-holds
-    cast-c
-    cast-d
-    guess-requires
-    bit-requires
-    slice-write-matrix
-    add-i
-    loop-less
-    loop-again
+    clear-requires
     same-length
-    returns)
+    returns
+    join-machines-requires
+    same-length-2
+    returns-2
+    join-files-requires
+    same-length-3
+    returns-3)

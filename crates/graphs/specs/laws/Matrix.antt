@@ -64,30 +64,6 @@ or-none false = refl
 pub record Holds (f : ℕ → ℕ → Bool) (m : List ℕ) : Type 0 where
   pub at : (e d : ℕ) → e < clocks → d < clocks → pairOf m clocks e d ≡ f e d
 
--- f of the first i cells
-pub record Filled (f : ℕ → ℕ → Bool) (m : List ℕ) (i : ℕ) : Type 0 where
-  pub room : length m ≡ clocks * clocks
-  pub cells : (j : ℕ) → j < i → ltb 0 (getD m j 0) ≡ f (j / clocks) (j % clocks)
-
-pub fill-more : {f : ℕ → ℕ → Bool} {m : List ℕ} {i : ℕ} (v : ℕ) → Filled f m i → i < clocks * clocks → ltb 0 v ≡ f (i / clocks) (i % clocks) → Filled f (set m i v) (i + 1)
-fill-more {f} {m} {i} v s h e = record {
-  room = length-set m i v ∙ s .room;
-  cells = below-more _ i (λ j l. ap (ltb 0) (getD-set-other m i j v 0 (λ q. omega arith)) ∙ s .cells j l) (ap (ltb 0) (getD-set-same m i v 0 (omega (arith, s .room))) ∙ e);
-}
-
-pub fill-done : {f : ℕ → ℕ → Bool} {m : List ℕ} {i : ℕ} → Filled f m i → clocks * clocks ≤ i → Holds f m
-fill-done {f} {m} {i} s h = record { at = λ e d l k. cell e d l k }
-  where
-    cell : (e d : ℕ) → e < clocks → d < clocks → pairOf m clocks e d ≡ f e d
-    cell e d l k =
-        let q : (e * clocks + d) / clocks ≡ e = omega arith in
-        let r : (e * clocks + d) % clocks ≡ d = omega arith in
-        s .cells (e * clocks + d) (omega arith) ∙ rw (q, r) refl
-
-pub bit-is : (b : Bool) → ltb 0 (cond b 1 0) ≡ b
-bit-is true = refl
-bit-is false = refl
-
 -- m′ is m with c and d joined
 pub record Joined (m : List ℕ) (c d : ℕ) (m′ : List ℕ) : Type 0 where
   pub room : length m′ ≡ length m

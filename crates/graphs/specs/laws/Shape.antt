@@ -88,7 +88,7 @@ domains-sym g n Nobody (Domain d m) = refl
 domains-sym g n Nobody (Private f) = refl
 domains-sym g n Nobody Nobody = refl
 
-guess-sym : (g : ℕ) (w : World) (c d : ℕ) → guess g w c d ≡ guess g w d c
+pub guess-sym : (g : ℕ) (w : World) (c d : ℕ) → guess g w c d ≡ guess g w d c
 unfolding guess
 guess-sym g w c d = rw (domains-sym g (w .machines) (owner c) (owner d), or-swap (to-trace w c d) (to-trace w d c)) refl
 

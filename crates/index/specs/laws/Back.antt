@@ -71,7 +71,7 @@ module _ (s : Text) (v : ℕ) where
     unfolding indexOf headRow
     in-block j h = getD-append-add (headRow s v) (rows (λ k. block s (getD (filesOf s v) k 0)) 32) (77 * i + j) 0 ∙ rows-at 77 (λ k. block s (getD (filesOf s v) k 0)) (λ k. block-length s _) 32 i j small h
 
-    in-row : (j : ℕ) → j < 13 → getD (indexOf s v) (6 + (77 * i + j)) 0 ≡ getD (entryRow s (getD (filesOf s v) i 0)) j 0
+    pub in-row : (j : ℕ) → j < 13 → getD (indexOf s v) (6 + (77 * i + j)) 0 ≡ getD (entryRow s (getD (filesOf s v) i 0)) j 0
     unfolding block
     in-row j h =
         in-block j (omega arith)

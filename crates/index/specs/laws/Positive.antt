@@ -37,7 +37,7 @@ module _ {A : Type 0} (P : A → Type 0) (one : Reader A) (close : ℕ) (s : Tex
   unfolding many
   many-all i p e = pick-case _ _ _ e (λ _ f. subst (All P) (done-of f) all-none) (λ _ f. items-all (suc (length s)) i p f)
 
-  all-listed : (i : ℕ) → 0 < i → All P (listed (many one close s i))
+  pub all-listed : (i : ℕ) → 0 < i → All P (listed (many one close s i))
   unfolding listed
   all-listed i p = go (many one close s i) (λ xs m e. many-all i p e)
     where
@@ -46,7 +46,7 @@ module _ {A : Type 0} (P : A → Type 0) (one : Reader A) (close : ℕ) (s : Tex
       go (bad q) f = all-none
       go (deep q) f = all-none
 
-all-pick : {A : Type 0} (P : A → Type 0) (b : Bool) (l : List A) → All P l → All P (pick b l [])
+pub all-pick : {A : Type 0} (P : A → Type 0) (b : Bool) (l : List A) → All P l → All P (pick b l [])
 unfolding pick
 all-pick P true l h = h
 all-pick P false l h = all-none
@@ -72,14 +72,14 @@ members-positive s p = all-pick (λ m. m .1 ≡ 0 → ⊥) (eqb (peek s p) 123) 
         let v : x .1 ≡ skip s (w .0) = w .3 in
         omega (arith, skip-ge s (w .0))
 
-all-places : (n : Text) (ms : List (Text × ℕ)) → All (λ m. m .1 ≡ 0 → ⊥) ms → All (λ q. q ≡ 0 → ⊥) (placesOf n ms)
+pub all-places : (P : ℕ → Type 0) (n : Text) (ms : List (Text × ℕ)) → All (λ m. P (m .1)) ms → All P (placesOf n ms)
 unfolding placesOf pick
-all-places n [] all-none = all-none
-all-places n (m ∷ ms) (all-one h a) = go (same (m .0) n) (all-places n ms a)
+all-places P n [] all-none = all-none
+all-places P n (m ∷ ms) (all-one h a) = go (same (m .0) n) (all-places P n ms a)
   where
-    go : (b : Bool) → All (λ q. q ≡ 0 → ⊥) (placesOf n ms) → All (λ q. q ≡ 0 → ⊥) (pick b (m .1 ∷ placesOf n ms) (placesOf n ms))
+    go : (b : Bool) → All P (placesOf n ms) → All P (pick b (m .1 ∷ placesOf n ms) (placesOf n ms))
     go true r = all-one h r
     go false r = r
 
 pub places-positive : (s : Text) (p : ℕ) (n : Text) → All (λ q. q ≡ 0 → ⊥) (placesOf n (membersAt s p))
-places-positive s p n = all-places n (membersAt s p) (members-positive s p)
+places-positive s p n = all-places (λ q. q ≡ 0 → ⊥) n (membersAt s p) (members-positive s p)

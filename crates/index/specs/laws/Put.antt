@@ -1,10 +1,10 @@
 -- Numbers put into a list from a place on. Assumes nothing.
 use mathlib.Core.Path.{_≡_, refl, sym, ap, subst, _∙_}
 use mathlib.Core.List.{List, [], _∷_, _++_, append-assoc}
-use Prim.Native.Nat.{ℕ, zero, suc, _+_, _≤_, _<_}
+use Prim.Native.Nat.{ℕ, suc, _+_, _≤_, _<_}
 use native.Mathlib.Omega.{arith}
 use lib.ListN.{length, getD, set, take, drop, length-append, length-drop, take-append-drop}
-use lib.Seq.{length-take-le, take-suc, set-split, take-at, drop-at, drop-drop, drop-length}
+use lib.Seq.{length-take-le, take-suc, set-split, take-at, drop-at, drop-drop, drop-length, take-append-le, take-take}
 use Rattle.index.specs.Index.{rows}
 
 -- new is old with the numbers w from base on
@@ -34,6 +34,10 @@ module _ {old mid : List ℕ} {base : ℕ} {w : List ℕ} (p : Put old base w mi
       let a : length mid ≡ length (take base old ++ w) + length (drop (base + length w) old) = ap length split ∙ length-append (take base old ++ w) (drop (base + length w) old) in
       omega (arith, front, p .fits, length-drop (base + length w) old)
 
+  -- after them it is as it was
+  pub put-after : drop (base + length w) mid ≡ drop (base + length w) old
+  put-after = ap (drop (base + length w)) split ∙ drop-at (take base old ++ w) (drop (base + length w) old) (base + length w) front
+
   -- further numbers after them
   pub put-more : {x new : List ℕ} {n : ℕ} → n ≡ base + length w → Put mid n x new → Put old base (w ++ x) new
   put-more {x} {new} {n} e q =
@@ -50,6 +54,22 @@ module _ {old mid : List ℕ} {base : ℕ} {w : List ℕ} (p : Put old base w mi
             ∙ (append-assoc (take base old) w (x ++ drop (base + length (w ++ x)) old)
             ∙ ap (λ (k : List ℕ). take base old ++ k) (sym (append-assoc w x (drop (base + length (w ++ x)) old)))));
       }
+
+-- further numbers before them
+pub put-before : {old mid new x w : List ℕ} {base n : ℕ} → n ≡ base + length w → Put old n x mid → Put mid base w new → Put old base (w ++ x) new
+put-before {old} {mid} {new} {x} {w} {base} {n} e q p =
+    let l : length mid ≡ length old = put-length q in
+    let a : n ≤ length old = omega (arith, q .fits) in
+    let d : length (take n old) ≡ n = length-take-le n old a in
+    let t : take base mid ≡ take base old =
+    ap (take base) (q .is) ∙ (take-append-le base (take n old) (x ++ drop (n + length x) old) (omega arith) ∙ take-take base n old (omega arith)) in
+    let r : drop (base + length w) mid ≡ x ++ drop (n + length x) old =
+    ap (λ (m : ℕ). drop m mid) (sym e) ∙ (ap (drop n) (q .is) ∙ drop-at (take n old) (x ++ drop (n + length x) old) n d) in
+    let f : n + length x ≡ base + length (w ++ x) = omega (arith, length-append w x) in
+    record {
+      fits = omega (arith, q .fits);
+      is = p .is ∙ ((λ i. t i ++ (w ++ r i)) ∙ ((λ i. take base old ++ (w ++ (x ++ drop (f i) old))) ∙ ap (λ (k : List ℕ). take base old ++ k) (sym (append-assoc w x (drop (base + length (w ++ x)) old)))));
+    }
 
 -- all is put
 pub put-all : {old w new : List ℕ} → Put old 0 w new → length w ≡ length old → new ≡ w

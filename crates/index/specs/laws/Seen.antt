@@ -99,7 +99,7 @@ items-there : (s : Text) (p : ℕ) → (p ≡ 0 → ⊥) → itemsOf s p ≡ ite
 unfolding itemsOf
 items-there s p n = pick-false _ _ (ne-eqb p 0 n)
 
-column-there : (s : Text) (p : ℕ) (n : Text) → (p ≡ 0 → ⊥) → column s p n ≡ counted (placesOf n (membersAt s p)) .at
+pub column-there : (s : Text) (p : ℕ) (n : Text) → (p ≡ 0 → ⊥) → column s p n ≡ counted (placesOf n (membersAt s p)) .at
 unfolding column memberAt
 column-there s p n h = pick-false _ _ (ne-eqb p 0 h)
 

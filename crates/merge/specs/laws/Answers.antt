@@ -1,53 +1,26 @@
--- The events' answers, made in a part of the lent matrix. Assumes nothing.
-use mathlib.Core.Path.{_≡_, refl, ap, subst, _∙_}
+-- The events' answers in the lent memories. Assumes nothing.
+use mathlib.Core.Path.{_≡_, refl, ap, _∙_}
 use mathlib.Core.Bool.{Bool, true, false, cond}
-use mathlib.Core.List.{List, _∷_, _++_, map}
-use Prim.Native.Nat.{ℕ, zero, suc, _+_, _-_, _≤_}
-use native.Mathlib.Omega.{arith}
+use mathlib.Core.List.{List, map}
+use Prim.Native.Nat.{ℕ, _-_, _≤_}
 use lib.IntN.{ℤ, pos}
-use lib.ListN.{length, take, drop, replicate}
-use lib.Seq.{length-take-le}
+use lib.ListN.{length, replicate}
 use Rattle.graphs.specs.Graphs.{World}
 use borrow.Author.Tests.{le-leb}
 use Rattle.clocks.specs.Answers.{Room, fits, answersOf, timeOf, kindOf, stepsOf, padded, Filled, filled}
-use Rattle.merge.specs.Memories.{Answered, Timed}
+use Rattle.clocks.specs.declared.Answer.{Answer as EventAnswer}
 
--- the matrix is zeros, whatever is answered
-pub filled-matrix : (w : World) (cs : List ℕ) (ts : List ℤ) (room : Room) → filled w cs ts room .matrix ≡ replicate (room .matrix) 0
-unfolding filled
-filled-matrix w cs ts room = go (fits (length (w .links)) (length (answersOf w cs ts)) room) _ _ refl refl
-  where
-    go : (b : Bool) (x y : Filled) {m : List ℕ} → x .matrix ≡ m → y .matrix ≡ m → cond b x y .matrix ≡ m
-    go true x y p q = p
-    go false x y p q = q
+-- the memories of the events hold these answers
+pub record Answered (o : Filled) (times : List ℤ) (kinds steps : List ℕ) : Type 0 where
+  pub times-are : times ≡ o .times
+  pub kinds-are : kinds ≡ o .kinds
+  pub steps-are : steps ≡ o .steps
 
--- zeros at the front of zeros
-pub zeros-front : (n k : ℕ) → n ≤ k → replicate {A = ℕ} n 0 ++ drop n (replicate k 0) ≡ replicate k 0
-zeros-front zero k h = refl
-zeros-front (suc n) zero h = absurd (omega arith)
-zeros-front (suc n) (suc k) h = ap (λ (l : List ℕ). 0 ∷ l) (zeros-front n k (omega arith))
-
--- the answers are those for a matrix of n bytes
-module _ (w : World) (cs : List ℕ) (ts : List ℤ) (nt nk ns : ℕ) (m : List ℕ) (n : ℕ) (h : n ≤ length m) where
-  abbrev inPart : Filled
-  inPart = filled w cs ts (record { times = nt; kinds = nk; steps = ns; matrix = length (take n m) })
-
-  pub part-answered : {times : List ℤ} {kinds steps : List ℕ} → times ≡ inPart .times → kinds ≡ inPart .kinds → steps ≡ inPart .steps
-      → Answered (filled w cs ts (record { times = nt; kinds = nk; steps = ns; matrix = n })) times kinds steps
-  part-answered {times} {kinds} {steps} a b c =
-      subst (λ (k : ℕ). Answered (filled w cs ts (record { times = nt; kinds = nk; steps = ns; matrix = k })) times kinds steps) (length-take-le n m h)
-      (record { times-are = a; kinds-are = b; steps-are = c })
-
-  -- and the matrix is zeros as before
-  pub part-zeros : {p : List ℕ} → m ≡ replicate (length m) 0 → p ≡ inPart .matrix → p ++ drop n m ≡ replicate (length m) 0
-  part-zeros {p} z e =
-      (λ i. (e ∙ (filled-matrix w cs ts _ ∙ ap (λ (k : ℕ). replicate {A = ℕ} k 0) (length-take-le n m h))) i ++ drop n (z i))
-      ∙ zeros-front n (length m) h
-
--- in an equal world
-pub answered-in : {w v : World} → w ≡ v → (cs : List ℕ) (ts : List ℤ) (room : Room) {times : List ℤ} {kinds steps : List ℕ}
-    → Answered (filled w cs ts room) times kinds steps → Answered (filled v cs ts room) times kinds steps
-answered-in e cs ts room {times} {kinds} {steps} r = subst (λ (u : World). Answered (filled u cs ts room) times kinds steps) e r
+-- the memories of the events hold these answers, and then zeros
+pub record Timed (all : List EventAnswer) (nt nk ns : ℕ) (times : List ℤ) (kinds steps : List ℕ) : Type 0 where
+  pub times-are : times ≡ padded (pos 0) nt (map timeOf all)
+  pub kinds-are : kinds ≡ padded 0 nk (map kindOf all)
+  pub steps-are : steps ≡ padded 0 ns (map stepsOf all)
 
 -- all that is filled is answered
 module _ (w : World) (cs : List ℕ) (ts : List ℤ) (nt nk ns : ℕ) where

@@ -5,40 +5,20 @@ use Prim.Native.Nat.{ℕ, zero, suc, _+_, _*_, _-_, _≤_, _<_}
 use native.Mathlib.Omega.{arith}
 use native.Mathlib.Decide.{decLt}
 use lib.IntN.{ℤ}
-use lib.ListN.{length, getD, take, drop, replicate, length-append, length-replicate, length-take, length-drop, List·getD-eq-default}
+use lib.ListN.{length, getD, take, drop, replicate, length-replicate, length-take, List·getD-eq-default}
 use lib.Seq.{getD-take}
 use Rattle.text.specs.Reading.{Text}
-use Rattle.records.specs.Readers.{eventAt}
-use Rattle.index.specs.laws.Entries.{listed-length}
-use Rattle.records.specs.declared.Event.{Event}
 use Rattle.sheet.specs.declared.Table.{Table}
 use Rattle.clocks.specs.Answers.{filled}
 use Rattle.merged.specs.Merged.{padded}
-use Rattle.merged.specs.laws.Lists.{length-map}
 use Rattle.checks.specs.Machines.{machineTable}
 use Rattle.lines.specs.Lines.{clockBy, eventsAt, over, reach}
 use Rattle.joins.specs.Joined.{worldBy, answersBy}
 use Rattle.joins.specs.laws.Arrays.{over-front, links-few, answers-length}
-use Rattle.merge.specs.Memories.{Answered, Timed}
-use Rattle.merge.specs.laws.Answers.{answers-filled}
+use Rattle.merge.specs.laws.Answers.{Answered, Timed, answers-filled}
 
 pub zero-least : (n : ℕ) → 0 ≤ n
 zero-least n = omega arith
-
--- what is within a list is within one that is as long
-pub kept-within : {k n m : ℕ} → n ≡ m → k ≤ m → k ≤ n
-kept-within e h = omega arith
-
--- 32 fits a byte
-pub few-byte : {n : ℕ} → n ≤ 32 → n < 256
-few-byte h = omega arith
-
--- as many as are padded are within
-pub padded-within : {A B : Type 0} (f : B → A) (z : A) (room : ℕ) (l : List B) {n : ℕ} {a : List A} → n ≡ length l → a ≡ padded z room (map f l) → n ≤ length a
-padded-within f z room l e q =
-    let h = ap length q ∙ length-append (map f l) (replicate (room - length (map f l)) z) in
-    let g = length-map f l in
-    omega arith
 
 -- zeros are as many as there were
 pub zeros-long : {A : Type 0} (z : A) (n m : ℕ) {x : List A} → x ≡ replicate n z → length x ≡ m → x ≡ replicate m z
@@ -66,15 +46,6 @@ take-small n k l h j = go (decLt j n)
     go : Dec (j < n) → getD (take n l) j 0 ≤ k
     go (yes q) = subst (λ (m : ℕ). m ≤ k) (sym (getD-take n l j 0 q)) (h j)
     go (no q) = subst (λ (m : ℕ). m ≤ k) (sym (List·getD-eq-default (take n l) 0 (omega (arith, length-take n l)))) (omega arith)
-
--- a memory that events are written over stays as long as it is
-pub events-kept : {A : Type 0} (f : Event → A) (b : List ℕ) (at k p q : ℕ) (m : List A) {x : List A} → k ≤ length m → x ≡ over (map f (eventsAt b at (reach k p q))) m → length x ≡ length m
-unfolding eventsAt
-events-kept f b at k p q m h e =
-    let l = eventsAt b at (reach k p q) in
-    let a = length-map f l ∙ listed-length (λ i. eventAt b (at + 75 * i)) 0 (reach k p q) in
-    let d = ap length e ∙ (length-append (map f l) (drop (length (map f l)) m) ∙ ap (λ (n : ℕ). length (map f l) + n) (length-drop (length (map f l)) m)) in
-    omega arith
 
 -- the events' clocks and readings, from the memories
 module _ (s : Text) (b ix names t : List ℕ) (p : Table) {each : List ℕ} (machines : each ≡ machineTable t) (nt nk ns : ℕ) (ht : p .events .count ≤ nt) (hk : p .events .count ≤ nk) (hs : p .events .count ≤ ns) where

@@ -1,19 +1,18 @@
--- `named::is_called` meets its contract: at 0 no name stands; else the texts decide.
--- Assumes nothing.
+-- `named::is_called` meets its contract: at 0 no name stands; else the texts decide. Assumes nothing.
 use mathlib.Core.Path.{_∙_}
-use borrow.Author.Needs.{needs}
 use Rattle.named.specs.laws.Firsts.{called-none, called-some}
+use borrow.Author.Needs.{needs}
 use Rattle.named.proofs.is_called.Statement.{statement}
 use Rattle.named.proofs.is_called.Tie as tie
 
 returns : tie.Need-returns
 returns c = called-none _ _ _ (c .if1 .taken)
 
-same-at-requires : tie.Need-same-at-requires
-same-at-requires c κs = search needs
+is-text-requires : tie.Need-is-text-requires
+is-text-requires c κs = c .before .before .pre
 
 returns-2 : tie.Need-returns-2
-returns-2 c = c .same-at .ensures ∙ called-some _ _ _ (c .before .if1 .left)
+returns-2 c = c .is-text .ensures ∙ called-some _ _ _ (c .before .if1 .left)
 
 pub is-called-spec : {M : Type 1} → statement M
-is-called-spec = tie.close (tie.spec returns same-at-requires returns-2)
+is-called-spec = tie.close (tie.spec returns is-text-requires returns-2)

@@ -1,9 +1,9 @@
--- The rules' parts, as the functions ask for them: a rule in one entry, the ids from an item on, a path before an entry. Assumes nothing.
+-- The rules' parts, as the functions ask for them: a rule in one entry, the ids from an item on or by the numbers of a table, a path before an entry. Assumes nothing.
 use mathlib.Core.Bool.{Bool}
-use mathlib.Core.List.{List}
-use Prim.Native.Nat.{ℕ}
-use lib.IntN.{ℤ}
-use lib.ListN.{take}
+use mathlib.Core.List.{List, [], _∷_}
+use Prim.Native.Nat.{ℕ, zero, suc}
+use lib.IntN.{ℤ, pos}
+use lib.ListN.{take, drop}
 use Rattle.text.specs.Reading.{Text}
 use Rattle.manifest.specs.View.{one}
 use Rattle.manifest.specs.Rows.{the, holds, any, flat, path, id, entries}
@@ -18,6 +18,15 @@ inEntry r s ix i = r .within (manifestOf s ix) i (one (entryAt s ix i))
 -- the ids of entry i, from item k on
 unfoldable pub idsFrom : Text → List ℕ → ℕ → ℕ → List ℤ
 idsFrom s ix i k = flat (λ v. the (id v)) (from (itemAt s ix i) (itemsIn ix i) k)
+
+-- the id that a number stands for: one more than it is the number, and 0 stands for none
+unfoldable pub idOf : ℕ → List ℤ
+idOf zero = []
+idOf (suc n) = pos n ∷ []
+
+-- the ids that the first n numbers of a table stand for, from place k on
+unfoldable pub idsIn : List ℕ → ℕ → ℕ → List ℤ
+idsIn table n k = flat idOf (drop k (take n table))
 
 -- entry i has the path of an entry before it
 unfoldable pub pathBefore : Text → List ℕ → ℕ → Bool

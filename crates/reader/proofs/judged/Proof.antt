@@ -1,9 +1,7 @@
--- `reader::judged` meets its contract: no bytes and each of 1 to 5 are ends; where none of 1 to 4 applies there is a document, and its manifest object is judged.
--- Assumes nothing.
-use Rattle.reader.specs.laws.Outer.{ends-none, ends-early, ends-5}
-use mathlib.Core.Path.{sym, _∙_}
+-- `reader::judged` meets its contract: no bytes are an end; the manifest object that a glance finds is judged, and else each refusal is asked for. Assumes nothing.
 use native.Mathlib.Omega.{arith}
-use Rattle.reader.specs.laws.Early.{early-passed}
+use Rattle.reader.specs.laws.Sole.{told-at}
+use Rattle.reader.specs.laws.Outer.{ends-none}
 use borrow.Author.Needs.{needs}
 use Rattle.reader.proofs.judged.Statement.{statement}
 use Rattle.reader.proofs.judged.Tie as tie
@@ -11,40 +9,36 @@ use Rattle.reader.proofs.judged.Tie as tie
 returns : tie.Need-returns
 returns c = ends-none _ (omega arith)
 
-early-requires : tie.Need-early-requires
-early-requires c κs = search needs
-
-returns-2 : tie.Need-returns-2
-returns-2 c = ends-early _ (c .before .early .ensures) (λ q. omega arith) (λ q. omega arith)
-
-root-requires : tie.Need-root-requires
-root-requires c κs = search needs
+glance-requires : tie.Need-glance-requires
+glance-requires c κs = search needs
 
 enum-known-v : tie.Need-enum-known-v
 enum-known-v c = search needs
 
 object-requires : tie.Need-object-requires
-object-requires c κs = (early-passed _ (sym (c .before .before .before .before .before .early .ensures) ∙ (omega arith)), sym (c .before .before .before .root .ensures) ∙ c .before .v .given .1)
+object-requires c κs = told-at (c .before .before .before .glance .ensures) (c .before .v .given .1)
 
 enum-told : tie.Need-enum-told
 enum-told c = search needs
 
+judged-in-turn-requires : tie.Need-judged-in-turn-requires
+judged-in-turn-requires c κs = λ q. omega arith
+
+returns-2 : tie.Need-returns-2
+returns-2 c = search needs
+
 returns-3 : tie.Need-returns-3
 returns-3 c = search needs
-
-returns-4 : tie.Need-returns-4
-returns-4 c = ends-5 (early-passed _ (sym (c .before .before .before .before .early .ensures) ∙ (omega arith))) (sym (c .before .before .root .ensures) ∙ c .enum-told .given .1)
 
 pub judged-spec : {M : Type 1} → statement M
 judged-spec =
     tie.close
     (tie.spec
     returns
-    early-requires
-    returns-2
-    root-requires
+    glance-requires
     enum-known-v
     object-requires
     enum-told
-    returns-3
-    returns-4)
+    judged-in-turn-requires
+    returns-2
+    returns-3)

@@ -1,0 +1,3 @@
+-- Laws for the proofs.
+pub mod Drawn
+pub mod Verdicts

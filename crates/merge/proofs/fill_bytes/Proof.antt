@@ -1,0 +1,48 @@
+-- `merge::fill_bytes` meets its contract: the elements passed hold the value. Assumes nothing.
+use Prim.Native.Nat.{_-_}
+use lib.ListN.{length}
+use Rattle.graphs.specs.laws.Clear.{Cleared, clear-start, clear-more, clear-all}
+use native.Mathlib.Omega.{arith}
+use Rattle.merge.proofs.fill_bytes.Statement.{statement}
+use Rattle.merge.proofs.fill_bytes.Tie as tie
+
+abbrev Inv-loop : tie.InvT-loop
+Inv-loop out₀ v i₀ out i = Cleared v (length out₀) out i
+
+abbrev μ-loop : tie.MeasureT-loop
+μ-loop out₀ v i₀ out i = length out₀ - i
+
+loop-holds : tie.Need-loop-holds Inv-loop μ-loop
+loop-holds c = clear-start _ _
+
+slice-write-out : tie.Need-slice-write-out Inv-loop μ-loop
+slice-write-out c = omega (arith, c .before .loop .inv .whole)
+
+add-i : tie.Need-add-i Inv-loop μ-loop
+add-i c = omega (arith, c .before .loop .inv .whole)
+
+loop-less : tie.Need-loop-less Inv-loop μ-loop
+loop-less c = omega (arith, c .before .loop .inv .whole)
+
+loop-again : tie.Need-loop-again Inv-loop μ-loop
+loop-again c = clear-more (c .before .loop .inv) (omega (arith, c .before .loop .inv .whole))
+
+same-length : tie.Need-same-length Inv-loop μ-loop
+same-length c = c .before .loop .inv .whole
+
+returns : tie.Need-returns Inv-loop μ-loop
+returns c = clear-all (c .before .loop .inv) (omega (arith, c .before .loop .inv .whole))
+
+pub fill-bytes-spec : {M : Type 1} → statement M
+fill-bytes-spec =
+    tie.close
+    (tie.spec
+    Inv-loop
+    μ-loop
+    loop-holds
+    slice-write-out
+    add-i
+    loop-less
+    loop-again
+    same-length
+    returns)

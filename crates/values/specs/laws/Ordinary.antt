@@ -1,0 +1,72 @@
+-- A byte that comparing alone tells to be a character of a string by itself: what reading it gives, and its form in UTF-8. Assumes nothing.
+use mathlib.Core.Path.{_≡_, refl, sym, ap, _∙_}
+use mathlib.Core.Bool.{Bool, true, false, not, _&&_, _||_}
+use mathlib.Core.List.{[], _∷_}
+use Prim.Native.Nat.{ℕ, _+_, _≤_, _<_}
+use native.Mathlib.Omega.{arith}
+use native.Mathlib.Decide.{decLt}
+use lib.ListN.{length}
+use lib.Dec.{leb, ltb, eqb}
+use borrow.Author.Tests.{le-leb, lt-leb, leb-true, ltb-true, lt-ltb, eq-eqb}
+use Rattle.text.specs.Reading.{Text, done, pick, peek}
+use Rattle.text.specs.Class.{classOf}
+use Rattle.text.specs.Strings.{character, utf8}
+use Rattle.text.specs.laws.ClassTable.{plains, plain-bytes}
+use Rattle.text.specs.laws.Peek.{peek-in}
+use Rattle.text.specs.laws.Strings.{character-plain}
+use Rattle.values.specs.laws.Compared.{startsFrom}
+
+-- 32 to 127, and no backslash. Of these the quote alone is no character
+pub record Ordinary (b : ℕ) : Type 0 where
+  pub low : 32 ≤ b
+  pub high : b ≤ 127
+  pub other : b ≡ 92 → ⊥
+
+in-plains : (b : ℕ) → Ordinary b → (b ≡ 34 → ⊥) → plains b ≡ true
+in-plains b o n = go (decLt b 34) (decLt 34 b) (decLt b 92) (decLt 92 b)
+  where
+    go : Dec (b < 34) → Dec (34 < b) → Dec (b < 92) → Dec (92 < b) → plains b ≡ true
+    go (yes l) _ _ _ = rw (le-leb 32 b (o .low), le-leb b 33 (omega arith))
+    go (no l) (no m) _ _ = absurd (n (omega arith))
+    go (no l) (yes m) (yes h) _ = rw (le-leb 32 b (o .low), lt-leb b 33 (omega arith), le-leb 35 b (omega arith), le-leb b 91 (omega arith))
+    go (no l) (yes m) (no h) (no g) = absurd (o .other (omega arith))
+    go (no l) (yes m) (no h) (yes g) = rw (le-leb 32 b (o .low), lt-leb b 33 (omega arith), le-leb 35 b (omega arith), lt-leb b 91 (omega arith), le-leb 93 b (omega arith), le-leb b 127 (o .high))
+
+between : (k : ℕ) → (leb 4 k && ltb k 18) ≡ true → (4 ≤ k) × (k < 18)
+between k = go (leb 4 k) refl
+  where
+    go : (x : Bool) → leb 4 k ≡ x → (x && ltb k 18) ≡ true → (4 ≤ k) × (k < 18)
+    go true p h = (leb-true 4 k p, ltb-true k 18 h)
+    go false p h = let z : _≡_ {A = ℕ} 0 1 = cc in absurd (omega arith)
+
+-- it is read as itself
+pub reads-itself : (s : Text) (i : ℕ) {b : ℕ} → b ≡ peek s i → Ordinary b → (b ≡ 34 → ⊥) → character s i ≡ done b (i + 1)
+reads-itself s i {b} e o n =
+    let w = between (classOf b) (plain-bytes b ∙ in-plains b o n) in
+    character-plain s i (ap classOf e) (w .0) (w .1) ∙ ap (λ (v : ℕ). done v (i + 1)) (sym e)
+
+itself : (b : ℕ) → Ordinary b → utf8 b ≡ b ∷ []
+unfolding utf8 pick
+itself b o = let h : b < 128 = omega (arith, o .high) in rw (lt-ltb b 128 h)
+
+-- and written in one byte
+pub width-one : (b : ℕ) → Ordinary b → 1 ≡ length (utf8 b)
+width-one b o = rw (itself b o)
+
+pub starts-itself : (t : Text) (k b : ℕ) → Ordinary b → eqb b (peek t k) ≡ startsFrom true (utf8 b) t k
+unfolding startsFrom
+starts-itself t k b o = rw (itself b o)
+
+-- by the three tests
+pub by-tests : (b : ℕ) → 32 ≤ b → b ≤ 127 → not (eqb b 92) ≡ true → Ordinary b
+by-tests b l h e = record { low = l; high = h; other = λ q. unlike (sym (ap not (eq-eqb b 92 q)) ∙ e) }
+  where
+    unlike : false ≡ true → ⊥
+    unlike f = let z : _≡_ {A = ℕ} 0 1 = cc in omega arith
+
+pub untold : (b : ℕ) → false ≡ true → Ordinary b
+untold b f = let z : _≡_ {A = ℕ} 0 1 = cc in absurd (omega arith)
+
+-- it stands within the text
+pub inside : (s : Text) (i : ℕ) {b : ℕ} → b ≡ peek s i → Ordinary b → i < length s
+inside s i {b} e o = let h : b ≤ 127 = o .high in peek-in s i (omega arith)
