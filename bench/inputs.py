@@ -105,6 +105,14 @@ def many_items():
     return filled(said, files, LONGEST, PROSE), sheet(listed, events)
 
 
+def crammed(front, begin, part, end):
+    """Few files, and behind the text `front` as many equal parts as there is room for, between a beginning and an end."""
+    text = manifest(few_files())
+    at = text.index(front) + len(front)
+    count = (LONGEST - len(text) - len(begin) - len(end)) // len(part)
+    return text[:at] + begin + part * count + end + text[at:], few_sheet(100)
+
+
 # The worst that was found.
 
 def chain(first, count):
@@ -154,6 +162,7 @@ for pairs, word in ((2, 'two'), (3, 'three')):
 INPUTS['manifest-1k'] = ('manifest of 1 KiB', lambda: commented(1024))
 INPUTS['manifest-64k'] = ('manifest of 64 KiB, long comments', lambda: commented(LONGEST))
 INPUTS['manifest-items'] = ('manifest of 64 KiB, 32 entries with 32 items', many_items)
+INPUTS['manifest-wide'] = ('manifest of 64 KiB, a text of two-byte characters', lambda: crammed(b'"version":1,', b'"comment":"', 'é'.encode(), b'",'))
 INPUTS['long-ways'] = ('paths of 191 pairs', long_ways)
 INPUTS['worst'] = ('the worst found: paths of 185 pairs, manifest of 64 KiB', worst)
 

@@ -1,5 +1,7 @@
 -- Laws that the proofs of the functions use.
-pub mod Visited
 pub mod Passed
-pub mod Counted
+pub mod Rows
+pub mod Steps
 pub mod Made
+pub mod Turns
+pub mod Counted

@@ -4,49 +4,21 @@ use mathlib.Core.List.{List, [], _∷_}
 use Prim.Native.Nat.{ℕ, _+_, _*_, _-_, _≤_, _<_, min}
 use native.Mathlib.Omega.{arith}
 use native.Mathlib.Decide.{decLt}
-use lib.ListN.{length, getD, replicate, length-replicate, List·getD-eq-default}
+use lib.ListN.{length, getD, replicate, List·getD-eq-default}
 use Rattle.text.specs.Reading.{Text, pick}
 use Rattle.manifest.specs.Names.{bytes}
 use Rattle.index.specs.Index.{column, itemsOf, rows, headRow, entryRow, itemRow, block, indexOf}
 use Rattle.index.specs.laws.Rows.{rows-length}
-use Rattle.index.specs.laws.Back.{filesOf, machinesOf, entryRow-length, block-length, index-long}
+use Rattle.index.specs.laws.Back.{entryRow-length, block-length, index-long}
 use Rattle.index.specs.laws.Put.{Put, put-none, put-before, put-all, put-row, put-same}
-use Rattle.fills.specs.laws.Known.{called, rowOf, entryNumbers, Standing, column-standing}
-use Rattle.fills.specs.laws.Blank.{Blank, blank-zeros, blank-same, blank-on, blank-put, put-rest}
+use Rattle.fills.specs.laws.Blank.{Blank, blank-same, blank-on, blank-put, put-zeros, put-rest}
 use Rattle.fills.specs.laws.Held.{PutHeld}
-
--- ---- rows of numbers that the code makes of columns
-
--- of the manifest object: its `trace_time` has the row r
-module _ (s : Text) (v : ℕ) {files trace n : ℕ} {r : List ℕ}
-    (e0 : files ≡ column s v (bytes "files")) (e1 : trace ≡ column s v (bytes "trace_time")) (er : r ≡ rowOf s trace 0 1 2 10)
-    (en : n ≡ length (itemsOf s files)) where
-  pub head-made : files ∷ trace ∷ getD r 0 0 ∷ getD r 1 0 ∷ getD r 2 0 ∷ n ∷ [] ≡ headRow s v
-  unfolding headRow rowOf called
-  head-made =
-      let e : r ≡ rowOf s (column s v (bytes "trace_time")) 0 1 2 10 = er ∙ ap (λ (x : ℕ). rowOf s x 0 1 2 10) e1 in
-      λ t. e0 t ∷ e1 t ∷ getD (e t) 0 0 ∷ getD (e t) 1 0 ∷ getD (e t) 2 0 ∷ (en ∙ ap (λ (x : ℕ). length (itemsOf s x)) e0) t ∷ []
-
--- of an entry: its `machine` has the row m, its `clocks` the row c, and the `sync_to` of those the row y
-pub sync-standing : (s : Text) (clocks : ℕ) {c : List ℕ} → c ≡ rowOf s clocks 0 2 7 8 → Standing s (getD c 2 0)
-unfolding rowOf called
-sync-standing s clocks ec = subst (Standing s) (sym (ap (λ (l : List ℕ). getD l 2 0) ec)) (column-standing s clocks (bytes "sync_to"))
-
-module _ (s : Text) (path machine machines clocks n : ℕ) {m c : List ℕ} (em : m ≡ rowOf s machine 6 10 10 10) (ec : c ≡ rowOf s clocks 0 2 7 8) where
-  pub entry-made : {y : List ℕ} → y ≡ rowOf s (getD c 2 0) 1 2 0 10
-      → path ∷ machine ∷ getD m 0 0 ∷ machines ∷ clocks ∷ getD c 0 0 ∷ getD c 1 0 ∷ getD c 2 0 ∷ getD y 0 0 ∷ getD y 1 0 ∷ getD y 2 0 ∷ getD c 3 0 ∷ n ∷ []
-      ≡ entryNumbers s path machine machines clocks n
-  unfolding entryNumbers rowOf called
-  entry-made {y} ey =
-      let e : y ≡ rowOf s (column s clocks (bytes "sync_to")) 1 2 0 10 = ey ∙ ap (λ (l : List ℕ). rowOf s (getD l 2 0) 1 2 0 10) ec in
-      λ t.
-      path ∷ machine ∷ getD (em t) 0 0 ∷ machines ∷ clocks ∷ getD (ec t) 0 0 ∷ getD (ec t) 1 0 ∷ getD (ec t) 2 0
-      ∷ getD (e t) 0 0 ∷ getD (e t) 1 0 ∷ getD (e t) 2 0 ∷ getD (ec t) 3 0 ∷ n ∷ []
+use Rattle.fills.specs.laws.Walked.{none, RowTo, rowBy, entryBy, headBy, EntryHas, HeadHas}
 
 -- of an item, of whose row only the first two are wanted
-pub item-made : (s : Text) (p : ℕ) {r : List ℕ} → r ≡ rowOf s p 9 6 10 10 → getD r 0 0 ∷ getD r 1 0 ∷ [] ≡ itemRow s p
-unfolding itemRow rowOf called
-item-made s p e = λ t. getD (e t) 0 0 ∷ getD (e t) 1 0 ∷ []
+pub item-made : (s : Text) (p : ℕ) {x : Text} {r : List ℕ} → RowTo s p (bytes "id") (bytes "name") x r → getD r 0 0 ∷ getD r 1 0 ∷ [] ≡ itemRow s p
+unfolding itemRow
+item-made s p w = λ t. getD (w .is t) 0 0 ∷ getD (w .is t) 1 0 ∷ []
 
 -- ---- rows put into the index
 
@@ -111,37 +83,19 @@ module _ (s : Text) (m base : ℕ) {old : List ℕ} where
       rest s m 2 (itemRow s) (no-item s) (min 32 k) n (omega (arith, rows-long s m 32)) h (omega arith) (omega arith) p
 
 -- an entry: its items, then its row before them
-module _ (s : Text) (p : ℕ) {own : List ℕ} (eo : own ≡ rowOf s p 3 2 4 5) where
-  its : (k : ℕ) → getD own k 0 ≡ getD (rowOf s p 3 2 4 5) k 0
-  its k = ap (λ (l : List ℕ). getD l k 0) eo
+module _ (s : Text) (p base : ℕ) {o : List ℕ} where
+  -- nothing was met
+  pub entry-start : length o ≡ 2470 → base + 77 ≤ 2470 → Blank o base → EntryHas s base o none (replicate 13 0) o
+  unfolding entryBy rowBy column itemsOf pick
+  entry-start l h b = record { is = refl; items = items-end s 0 (base + 13) 0 l (omega arith) (blank-on 13 b) refl (items-start s 0 (base + 13) (omega arith)); fresh = λ _. refl }
 
-  pub machine-standing : Standing s (getD own 1 0)
-  unfolding rowOf called
-  machine-standing = subst (Standing s) (sym (its 1)) (column-standing s p (bytes "machine"))
-
-  pub machines-standing : Standing s (getD own 2 0)
-  unfolding rowOf called
-  machines-standing = subst (Standing s) (sym (its 2)) (column-standing s p (bytes "machines"))
-
-  pub clocks-standing : Standing s (getD own 3 0)
-  unfolding rowOf called
-  clocks-standing = subst (Standing s) (sym (its 3)) (column-standing s p (bytes "clocks"))
-
-  module _ {n : ℕ} (en : n ≡ length (itemsOf s (getD own 2 0))) {row : List ℕ}
-      (er : row ≡ entryNumbers s (getD own 0 0) (getD own 1 0) (getD own 2 0) (getD own 3 0) n) where
-    entry-is : row ≡ entryRow s p
-    unfolding entryNumbers entryRow rowOf called
-    entry-is =
-        er ∙ (ap (entryNumbers s (getD own 0 0) (getD own 1 0) (getD own 2 0) (getD own 3 0)) en
-        ∙ λ t. entryNumbers s (its 0 t) (its 1 t) (its 2 t) (its 3 t) (length (itemsOf s (its 2 t))))
-
-    pub entry-put : (base : ℕ) {old mid new : List ℕ} → Put old (base + 13) (rows (λ k. itemRow s (getD (itemsOf s (getD own 2 0)) k 0)) 32) mid
-        → Put mid base row new → Put old base (block s p) new
-    unfolding block rowOf called
-    entry-put base q h =
-        let e : rows (λ k. itemRow s (getD (itemsOf s (getD own 2 0)) k 0)) 32 ≡ rows (λ k. itemRow s (getD (machinesOf s p) k 0)) 32 =
-        ap (λ (x : ℕ). rows (λ k. itemRow s (getD (itemsOf s x) k 0)) 32) (its 2) in
-        put-before (omega (arith, entryRow-length s p)) (put-same e q) (put-same entry-is h)
+  -- all was met
+  pub entry-put : {f : Text → ℕ} {row ix new : List ℕ} → EntryHas s base o f row ix → ((n : Text) → f n ≡ column s p n) → Put ix base row new → Put o base (block s p) new
+  unfolding block entryRow entryBy rowBy
+  entry-put {f} {row} {ix} {new} q h w =
+      let row-is : row ≡ entryRow s p = q .is ∙ λ i. entryBy s (λ n. h n i) in
+      put-before (omega (arith, entryRow-length s p))
+      (put-same (λ i. rows (λ k. itemRow s (getD (itemsOf s (h (bytes "machines") i)) k 0)) 32) (q .items)) (put-same row-is w)
 
 -- the entries, the items of the array at f
 module _ (s : Text) (f : ℕ) {old : List ℕ} where
@@ -164,18 +118,18 @@ module _ (s : Text) (f : ℕ) {old : List ℕ} where
       rest s f 77 (block s) (no-entry s) (min 32 i) n (omega (arith, blocks-long s f 32)) h (omega arith) (omega arith) p
 
 -- the index: the entries, then the row of the manifest object before them
-module _ (s : Text) (v : ℕ) {files : ℕ} (ef : files ≡ column s v (bytes "files")) where
-  pub files-standing : Standing s files
-  files-standing = subst (Standing s) (sym ef) (column-standing s v (bytes "files"))
+module _ (s : Text) (p : ℕ) {o : List ℕ} where
+  pub head-start : length o ≡ 2470 → Blank o 0 → HeadHas s o none (replicate 6 0) o
+  unfolding headBy column itemsOf pick
+  head-start l b = record { is = refl; entries = entries-end s 0 0 l (blank-on 6 b) refl (entries-start s 0 l); fresh = λ _. refl }
 
-  pub index-all : {row mid new : List ℕ} → Put (replicate 2470 0) 6 (rows (λ k. block s (getD (itemsOf s files) k 0)) 32) mid
-      → row ≡ headRow s v → Put mid 0 row new → new ≡ indexOf s v
-  unfolding indexOf headRow
-  index-all p er q =
-      let e : rows (λ k. block s (getD (itemsOf s files) k 0)) 32 ≡ rows (λ k. block s (getD (filesOf s v) k 0)) 32 =
-      ap (λ (x : ℕ). rows (λ k. block s (getD (itemsOf s x) k 0)) 32) ef in
-      let n : 6 ≡ 0 + length (headRow s v) = refl in
-      put-all (put-before n (put-same e p) (put-same er q)) (index-long s v ∙ sym (length-replicate {A = ℕ} 2470 0))
+  pub index-all : length o ≡ 2470 → {f : Text → ℕ} {row ix new : List ℕ} → HeadHas s o f row ix → ((n : Text) → f n ≡ column s p n) → Put ix 0 row new → new ≡ indexOf s p
+  unfolding indexOf headRow headBy
+  index-all l {f} {row} {ix} {new} q h w =
+      let row-is : row ≡ headRow s p = q .is ∙ λ i. headBy s (λ n. h n i) in
+      let n : 6 ≡ 0 + length (headRow s p) = refl in
+      put-all (put-before n (put-same (λ i. rows (λ k. block s (getD (itemsOf s (h (bytes "files") i)) k 0)) 32) (q .entries)) (put-same row-is w)) (index-long s p ∙ sym l)
 
-pub zeros-blank : Blank (replicate 2470 0) 6
-zeros-blank = blank-on 6 (blank-zeros 2470)
+  -- no columns: an index of zeros
+  pub index-none : length o ≡ 2470 → Blank o 0 → ((n : Text) → 0 ≡ column s p n) → o ≡ indexOf s p
+  index-none l b h = index-all l (head-start l b) h (put-zeros 6 b (omega arith))

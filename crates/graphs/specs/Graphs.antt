@@ -3,13 +3,14 @@ use mathlib.Core.Bool.{Bool, true, false, cond, not, _&&_, _||_}
 use mathlib.Core.List.{List, [], _∷_}
 use Prim.Native.Nat.{ℕ, _*_, _/_, _%_, _^_}
 use lib.Dec.{eqb, leb, ltb}
+use lib.ListN.{length, getD}
 use lib.IntN.{ℤ, pos}
 use Rattle.numbers.specs.declared.Owner.{Owner}
 use Rattle.numbers.specs.declared.Owner.the-variants.{Domain, Private, Nobody}
 use Rattle.numbers.specs.Numbers.{clocks, whatIs}
 use Rattle.whole.specs.Pairs.{Pair}
 use Rattle.paths.specs.Paths.{Net}
-use Rattle.paths.specs.Matrix.{far, empty}
+use Rattle.paths.specs.Matrix.{far, tabulate}
 use Rattle.graphs.specs.Links.{Link, linksOf, listOf}
 
 -- what is known of the recordings: how many machines and files there are, which files are pinned (bit f of `pinned` is file f), the
@@ -76,6 +77,12 @@ joined g w c d = some (along g w c d)
 abbrev pub graph : ℕ → World → Net
 graph g w = record { size = clocks; adj = joined g w; goal = w .trace; far = far }
 
--- the graph that is searched in a lent memory of so many bytes: without room for a byte for each two clocks, the graph without clocks
-unfoldable pub graphIn : ℕ → ℕ → World → Net
-graphIn room g w = cond (eqb room (clocks * clocks)) (graph g w) empty
+-- ---- the matrix that holds a graph, a byte for each two clocks, row after row
+-- the pairs that have a correspondence
+abbrev pub linked : List Link → ℕ → ℕ → Bool
+linked ls c d = some (listOf ls c d)
+
+-- a matrix after the pairs of P were joined in it: their bytes are 1, the others stay. A memory of another size stays as it is
+unfoldable pub marked : (ℕ → ℕ → Bool) → List ℕ → List ℕ
+marked P m =
+    cond (eqb (length m) (clocks * clocks)) (tabulate (λ i. cond (P (i / clocks) (i % clocks)) 1 (getD m i 0)) 0 (length m)) m

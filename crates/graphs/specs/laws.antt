@@ -6,3 +6,4 @@ pub mod Clear
 pub mod Shape
 pub mod Added
 pub mod Guesses
+pub mod Marked

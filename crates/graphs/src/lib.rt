@@ -2,14 +2,13 @@
 ghost use mathlib.Core.Path.{_≡_};
 ghost use mathlib.Core.List.{[]};
 ghost use mathlib.Core.Bool.{_&&_, _||_};
-ghost use Prim.Native.Nat.{ℕ, _+_, _*_, _-_, _/_, _%_, _^_, _≤_, _<_};
+ghost use Prim.Native.Nat.{_+_, _*_, _-_, _/_, _%_, _^_, _≤_, _<_};
 ghost use lib.Dec.{ltb, leb, eqb};
 ghost use lib.ListN.{length, replicate};
 ghost use Rattle.numbers.specs.Numbers.{clocks};
-ghost use Rattle.paths.specs.Matrix.{pairOf, distances, nexts};
-ghost use Rattle.graphs.specs.Links.{linksOf, listOf};
-ghost use Rattle.graphs.specs.Graphs.{worldOf, guess as guessed, some, joined, graphIn};
-ghost use Rattle.graphs.specs.laws.Matrix.{Holds, Joined, Smaller};
+ghost use Rattle.graphs.specs.Links.{linksOf};
+ghost use Rattle.graphs.specs.Graphs.{worldOf, guess as guessed, linked, marked};
+ghost use Rattle.graphs.specs.laws.Matrix.{Marks, joins, Smaller};
 ghost use Rattle.graphs.specs.laws.Added.{Added};
 ghost use Rattle.graphs.specs.laws.Guesses.{Row, Part, Free};
 
@@ -58,7 +57,7 @@ fn is_free(files: u8, pinned: u32, f: u8) -> bool
 // Joins two clocks, in both directions; what is no clock is left out.
 fn join(matrix: &mut [u8], c: u16, d: u16)
     requires { ⌜ length (now matrix) ≡ clocks * clocks ⌝ }
-    ensures { λ _. ⌜ Joined (now (matrix .entry)) c d (now (matrix .exit)) ⌝ }
+    ensures { λ _. ⌜ Marks (joins c d) (now (matrix .entry)) (now (matrix .exit)) ⌝ }
 {
     let e = c as usize;
     let f = d as usize;
@@ -148,12 +147,11 @@ fn join_files(files: u8, pinned: u32, trace: u16, matrix: &mut [u8])
     }
 }
 
-// Writes the guesses of graph g, a byte for each two clocks: most are none, so all are cleared and the others joined.
-fn fill_guesses(g: u8, machines: u8, files: u8, pinned: u32, trace: u16, matrix: &mut [u8])
+// Joins the pairs that graph g guesses.
+fn join_guesses(g: u8, machines: u8, files: u8, pinned: u32, trace: u16, matrix: &mut [u8])
     requires { ⌜ length (now matrix) ≡ clocks * clocks ⌝ }
-    ensures { λ _. ⌜ Holds (guessed g (worldOf [] [] [] [] machines files pinned trace)) (now (matrix .exit)) ⌝ }
+    ensures { λ _. ⌜ Marks (guessed g (worldOf [] [] [] [] machines files pinned trace)) (now (matrix .entry)) (now (matrix .exit)) ⌝ }
 {
-    clear(matrix);
     if g < 2 {
         return;
     }
@@ -167,7 +165,7 @@ fn fill_guesses(g: u8, machines: u8, files: u8, pinned: u32, trace: u16, matrix:
 // Joins the two clocks of each correspondence.
 fn join_links<'a>(a: &'a [u16], x: &'a [i64], b: &'a [u16], y: &'a [i64], matrix: &mut [u8])
     requires { ⌜ length (now matrix) ≡ clocks * clocks ⌝ }
-    ensures { λ _. ⌜ Holds (λ e f. pairOf (now (matrix .entry)) clocks e f || some (listOf (linksOf (now (a .entry)) (now (x .entry)) (now (b .entry)) (now (y .entry))) e f)) (now (matrix .exit)) ⌝ }
+    ensures { λ _. ⌜ Marks (linked (linksOf (now (a .entry)) (now (x .entry)) (now (b .entry)) (now (y .entry)))) (now (matrix .entry)) (now (matrix .exit)) ⌝ }
 {
     let n = count(a, x, b, y);
     let mut k: usize = 0;
@@ -175,28 +173,6 @@ fn join_links<'a>(a: &'a [u16], x: &'a [i64], b: &'a [u16], y: &'a [i64], matrix
         join(matrix, a[k], b[k]);
         k += 1;
     }
-}
-
-// Writes the pairs of graph g, if the memory has a byte for each two clocks.
-fn fill_matrix<'a>(
-    g: u8,
-    a: &'a [u16],
-    x: &'a [i64],
-    b: &'a [u16],
-    y: &'a [i64],
-    machines: u8,
-    files: u8,
-    pinned: u32,
-    trace: u16,
-    matrix: &mut [u8],
-)
-    ensures { λ _. ⌜ (length (now (matrix .exit)) ≡ length (now (matrix .entry))) × (length (now (matrix .entry)) ≡ clocks * clocks → Holds (joined g (worldOf (now (a .entry)) (now (x .entry)) (now (b .entry)) (now (y .entry)) machines files pinned trace)) (now (matrix .exit))) ⌝ }
-{
-    if matrix.len() != CELLS {
-        return;
-    }
-    fill_guesses(g, machines, files, pinned, trace, matrix);
-    join_links(a, x, b, y, matrix);
 }
 
 // Sets all of the memory to zeros.
@@ -210,26 +186,24 @@ fn clear(matrix: &mut [u8])
     }
 }
 
-// The distance to trace time and the next clock of each clock, in graph g. The lent memory needs a byte for each two clocks; with more or
-// fewer no clock has a path. It is zeros at the end.
-pub fn search<'a>(
-    g: u8,
-    a: &'a [u16],
-    x: &'a [i64],
-    b: &'a [u16],
-    y: &'a [i64],
-    machines: u8,
-    files: u8,
-    pinned: u32,
-    trace: numbers::Clock,
-    matrix: &mut [u8],
-) -> paths::Found
-    ensures found { λ r. ⌜ (r .dist ≡ distances (graphIn (length (now (matrix .entry))) g (worldOf (now (a .entry)) (now (x .entry)) (now (b .entry)) (now (y .entry)) machines files pinned (trace .0)))) × (r .next ≡ nexts (graphIn (length (now (matrix .entry))) g (worldOf (now (a .entry)) (now (x .entry)) (now (b .entry)) (now (y .entry)) machines files pinned (trace .0)))) ⌝ }
-    ensures cleared { λ _. ⌜ now (matrix .exit) ≡ replicate (length (now (matrix .entry))) 0 ⌝ }
+// Sets the matrix to zeros and, if it has a byte for each two clocks, joins the two clocks of each correspondence in it.
+pub fn start<'a>(a: &'a [u16], x: &'a [i64], b: &'a [u16], y: &'a [i64], matrix: &mut [u8])
+    ensures { λ _. ⌜ now (matrix .exit) ≡ marked (linked (linksOf (now (a .entry)) (now (x .entry)) (now (b .entry)) (now (y .entry)))) (replicate (length (now (matrix .entry))) 0) ⌝ }
 {
-    let t = trace.0;
-    fill_matrix(g, a, x, b, y, machines, files, pinned, t, matrix);
-    let found = paths::search(matrix, numbers::CLOCKS, t as usize);
     clear(matrix);
-    found
+    if matrix.len() != CELLS {
+        return;
+    }
+    join_links(a, x, b, y, matrix);
+}
+
+// Joins in the matrix, if it has a byte for each two clocks, the pairs that graph g guesses. They contain those of the graphs before, so a
+// matrix to which graph after graph was added holds the pairs of the last.
+pub fn add(g: u8, machines: u8, files: u8, pinned: u32, trace: numbers::Clock, matrix: &mut [u8])
+    ensures { λ _. ⌜ now (matrix .exit) ≡ marked (guessed g (worldOf [] [] [] [] machines files pinned (trace .0))) (now (matrix .entry)) ⌝ }
+{
+    if matrix.len() != CELLS {
+        return;
+    }
+    join_guesses(g, machines, files, pinned, trace.0, matrix);
 }

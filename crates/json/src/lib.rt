@@ -5,13 +5,24 @@ ghost use Rattle.json.specs.Document.{scalar as scalarOf, name as nameOf
 ghost use Rattle.json.specs.Items.{item as itemOf, closer};
 use text::Scan;
 
+// A reading as it is. It is made anew from its parts, since the compiler copies one that a call gave with all that lies between them.
+fn told(r: Scan) -> Scan
+    ensures { λ x. ⌜ x ≡ r ⌝ }
+{
+    match r {
+        Scan::Done(j) => Scan::Done(j),
+        Scan::Bad(p) => Scan::Bad(p),
+        Scan::Deep(p) => Scan::Deep(p),
+    }
+}
+
 // A string, a literal or a number, by its first byte.
 fn scalar(s: &[u8], at: usize) -> Scan
     ensures { λ r. ⌜ r ≡ scan (scalarOf (now (s .entry)) at) ⌝ }
 {
     let b = text::byte(s, at);
     if b == 34 {
-        return text::string(s, at);
+        return told(text::string(s, at));
     }
     if b == 116 {
         return text::literal(s, at, b"true");
@@ -22,7 +33,7 @@ fn scalar(s: &[u8], at: usize) -> Scan
     if b == 110 {
         return text::literal(s, at, b"null");
     }
-    text::number(s, at)
+    told(text::number(s, at))
 }
 
 // A member's name and its colon.
@@ -59,18 +70,28 @@ pub fn value(s: &[u8], at: usize, levels: u8) -> Scan
     }
 }
 
+// A value within an object or an array. What is no object and no array is read here, since a call of `value` costs more.
+fn held(s: &[u8], at: usize, levels: u8) -> Scan
+    ensures { λ r. ⌜ r ≡ scan (valueOf levels (now (s .entry)) at) ⌝ }
+{
+    match text::byte(s, at) {
+        91 | 123 => value(s, at, levels),
+        _ => scalar(s, at),
+    }
+}
+
 // A member of an object, or an item of an array.
 fn item(s: &[u8], at: usize, levels: u8, object: bool) -> Scan
     ensures { λ r. ⌜ r ≡ scan (itemOf object levels (now (s .entry)) at) ⌝ }
 {
     if object {
         match name(s, at) {
-            Scan::Done(j) => value(s, text::blank(s, j), levels),
+            Scan::Done(j) => held(s, text::blank(s, j), levels),
             Scan::Bad(p) => Scan::Bad(p),
             Scan::Deep(p) => Scan::Deep(p),
         }
     } else {
-        value(s, at, levels)
+        held(s, at, levels)
     }
 }
 

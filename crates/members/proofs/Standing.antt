@@ -1,119 +1,33 @@
 -- The type of the value at a position, and what a walk over it tells, in the code's own values. Assumes nothing.
-use mathlib.Core.Path.{_≡_, refl, sym, ap, subst, _∙_}
-use mathlib.Core.Bool.{Bool, true, false, true≢false}
+use mathlib.Core.Path.{_≡_, refl, sym, ap, _∙_}
+use mathlib.Core.Bool.{Bool, true, false}
 use mathlib.Core.List.{List, [], _∷_}
-use Prim.Native.Nat.{ℕ, zero, suc, _+_, _<_, _≤_}
+use Prim.Native.Nat.{ℕ, zero, suc, _+_, _<_}
 use native.Mathlib.Omega.{arith}
 use lib.ListN.{length}
-use lib.IntN.{ℤ}
-use lib.Signed.{ltZ}
 use Rattle.text.specs.Reading.{Text, Out, done, bad, deep, pick, peek, scan}
 use Rattle.text.specs.declared.Scan.{Scan}
 use Rattle.text.specs.declared.Scan.the-variants.{Done}
 use Rattle.text.specs.laws.Peek.{found-lt}
-use Rattle.json.specs.Tree.{Tree, null, bool, num, str, arr, obj, trees, members, items-of}
+use Rattle.json.specs.Tree.{Tree, arr, obj, trees, members, items-of}
 use Rattle.json.specs.Document.{many, member, value, most}
-use Rattle.values.specs.declared.Kind.{Kind}
-use Rattle.values.specs.declared.Kind.the-variants.{Nothing, Null, Truth, Number, String, Array, Object}
-use Rattle.values.specs.declared.Integer.{Integer}
-use Rattle.values.specs.declared.Integer.the-variants.{In, Below, Above, None}
-use Rattle.values.specs.Integer.{Whole, whole, none, ranged, integer, integerAt, integerOf}
-use Rattle.values.specs.Strings.{sameAs}
-use Rattle.values.specs.Stands.{Stands, kindOf, kindAt as kindThere}
-use Rattle.values.specs.Theorems.{kind-stands, integer-stands}
+use Rattle.values.specs.Stands.{Stands}
 use Rattle.values.specs.laws.Outs.{Gives, Stops, scan-done}
 use Rattle.values.specs.laws.Shapes.{Shape, array, object, text, yes-word, no-word, null-is, figure}
 use Rattle.values.specs.laws.Standing.{shape-of}
 use Rattle.places.specs.Places.{inner}
 use Rattle.manifest.specs.Rows.{any}
-use Rattle.manifest.specs.laws.Judge.{tag-number, tag, judged}
+use Rattle.manifest.specs.laws.Judge.{tag, judged}
 use Rattle.manifest.specs.laws.Table.{lines, kindAt}
 use Rattle.manifest.specs.laws.Walk.{from}
 use Rattle.members.specs.Members.{memberRefusalIn, memberRefusalAt}
 use Rattle.members.specs.declared.Walk.{Walk}
-use Rattle.members.specs.laws.Flaw.{sought, lineAt, wantedOf}
+use Rattle.members.specs.laws.Flaw.{sought}
+use Rattle.table.specs.Table.{wantedOf}
 use Rattle.members.specs.laws.Walked.{Reads, reached, Over, Told, ItemsTold, MembersTold}
-use Rattle.members.proofs.Table.{item-of}
-use Rattle.members.proofs.Judged.{free-judged, wrong-judged, scalar-judged, is-array, is-object, items-judged, members-judged, both-flaws}
+use Rattle.table.specs.laws.Lines.{item-of}
+use Rattle.members.specs.laws.Judged.{free-judged, wrong-judged, scalar-judged, is-array, is-object, items-judged, members-judged, both-flaws}
 use Rattle.members.proofs.Rows.{reached-done}
-
--- ---- a value's type
-
--- the type of a kind's values, but of numbers
-abbrev pub typeOf : Kind → ℕ
-typeOf Nothing = 0
-typeOf Null = 0
-typeOf Truth = 1
-typeOf Number = 0
-typeOf String = 2
-typeOf Array = 5
-typeOf Object = 6
-
-abbrev is-number : Kind → Bool
-is-number Nothing = false
-is-number Null = false
-is-number Truth = false
-is-number Number = true
-is-number String = false
-is-number Array = false
-is-number Object = false
-
-other-type : (t : Tree) → is-number (kindOf t) ≡ false → typeOf (kindOf t) ≡ tag t
-unfolding kindOf tag
-other-type null e = refl
-other-type (bool b) e = refl
-other-type (num cs) e = absurd (true≢false e)
-other-type (str s) e = refl
-other-type (arr ts) e = refl
-other-type (obj ms) e = refl
-
-number-type : (t : Tree) → is-number (kindOf t) ≡ true → (cs : Text) × (t ≡ num cs)
-unfolding kindOf
-number-type null e = absurd (true≢false (sym e))
-number-type (bool b) e = absurd (true≢false (sym e))
-number-type (num cs) e = (cs, refl)
-number-type (str s) e = absurd (true≢false (sym e))
-number-type (arr ts) e = absurd (true≢false (sym e))
-number-type (obj ms) e = absurd (true≢false (sym e))
-
-module _ (s : Text) (p : ℕ) {k : Kind} (ek : k ≡ kindThere s p) where
-  pub type-told : {d : Kind} → k ≡ d → is-number d ≡ false → (t : Tree) → Stands s p t → typeOf d ≡ tag t
-  type-told {d} e n t h =
-      let q : d ≡ kindOf t = sym e ∙ (ek ∙ kind-stands h) in
-      ap typeOf q ∙ other-type t (sym (ap is-number q) ∙ n)
-
-  pub number-told : k ≡ Number → {r : ℕ} → ((cs : Text) → Stands s p (num cs) → r ≡ tag (num cs)) → (t : Tree) → Stands s p t → r ≡ tag t
-  number-told e {r} f t h =
-      let q : Number ≡ kindOf t = sym e ∙ (ek ∙ kind-stands h) in
-      let (cs, w) = number-type t (sym (ap is-number q)) in
-      subst (λ (u : Tree). Stands s p u → r ≡ tag u) (sym w) (f cs) h
-
-abbrev is-none : Integer → Bool
-is-none (In z) = false
-is-none Below = false
-is-none Above = false
-is-none None = true
-
-some-integer : (z : ℤ) → is-none (ranged (whole z)) ≡ false
-unfolding ranged pick
-some-integer z = go (ltZ z _) (ltZ z _)
-  where
-    go : (a b : Bool) → is-none (pick a Below (pick b (In z) Above)) ≡ false
-    go true b = refl
-    go false true = refl
-    go false false = refl
-
-number-is : (w : Whole) → (b : Bool) → is-none (ranged w) ≡ b → pick b 4 3 ≡ tag-number w
-unfolding pick ranged tag-number
-number-is (whole z) true e = absurd (true≢false (sym e ∙ some-integer z))
-number-is (whole z) false e = refl
-number-is none true e = refl
-number-is none false e = absurd (true≢false e)
-
--- an integer or another number
-pub integer-told : (s : Text) (p : ℕ) {n d : Integer} → n ≡ integerAt s p → n ≡ d → (cs : Text) → Stands s p (num cs) → pick (is-none d) 4 3 ≡ tag (num cs)
-unfolding tag integerOf
-integer-told s p {n} {d} en e cs h = number-is (integer cs) (is-none d) (ap is-none (sym (integer-stands h) ∙ (sym en ∙ e)))
 
 -- ---- a value that is passed over
 
@@ -277,19 +191,3 @@ nothing-in (deep p) h = refl
 pub not-read : (s : Text) (p : ℕ) → Stops (value most s p) → 0 ≡ memberRefusalAt s p
 unfolding memberRefusalAt
 not-read s p h = nothing-in (value most s p) h
-
--- ---- the name of a line
-
--- the name of the line i, which is the line j
-pub this-name : (s : Text) (p : ℕ) {j i : ℕ} → j ≡ i → {x : Bool} → x ≡ sameAs s p (lineAt i .name) → x ≡ sameAs s p (lineAt j .name)
-this-name s p e h = h ∙ ap (λ (n : ℕ). sameAs s p (lineAt n .name)) (sym e)
-
--- what is none of 0 to 18, and below 20, is 19
-pub least : {j : ℕ} → 0 ≤ j
-least = omega arith
-
-pub up : {j n : ℕ} → n ≤ j → (j ≡ n → ⊥) → suc n ≤ j
-up h ne = omega arith
-
-pub last-line : {j : ℕ} → 19 ≤ j → j < 20 → j ≡ 19
-last-line h l = omega arith

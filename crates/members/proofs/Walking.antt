@@ -27,10 +27,13 @@ use Rattle.manifest.specs.laws.Table.{lines, kindAt}
 use Rattle.manifest.specs.laws.Walk.{from}
 use Rattle.members.specs.declared.Walk.{Walk}
 use Rattle.members.specs.declared.Known.{Known}
-use Rattle.members.specs.laws.Flaw.{sought, lineAt, valueKind, LineOf}
-use Rattle.members.specs.laws.Walked.{Reads, reached, Over, Told, ItemsTold, MemberTold, MembersTold, some, twices, ills, saidIn}
-use Rattle.members.proofs.Table.{kind-falls}
-use Rattle.members.proofs.Lines.{begin-twice, begin-ill, more-twice, more-ill, end-twice}
+use Rattle.members.specs.laws.Flaw.{sought}
+use Rattle.table.specs.Table.{lineAt, valueKind}
+use Rattle.table.specs.laws.Looking.{LineOf}
+use Rattle.members.specs.laws.Walked.{Reads, reached, Over, Told, ItemsTold, MemberTold, MembersTold, twices, ills, saidIn}
+use Rattle.table.specs.laws.Some.{some}
+use Rattle.table.specs.laws.Lines.{kind-falls}
+use Rattle.members.specs.laws.Lines.{begin-twice, begin-ill, more-twice, more-ill, end-twice}
 use Rattle.members.proofs.Rows.{Row, many-empty, many-row, row-reads, row-inside, row-onward, row-last, row-next, reached-done, gives-was, Sum, sum-on, sum-over}
 
 -- ---- the items of an array

@@ -2,3 +2,6 @@
 pub mod Flaw
 pub mod Walked
 pub mod Passed
+pub mod Judged
+pub mod Lines
+pub mod Lacking

@@ -2,6 +2,8 @@
 pub mod Texts
 pub mod Empty
 pub mod Firsts
+pub mod Prints
+pub mod Kept
 pub mod Held
 pub mod Filled
 pub mod Meant

@@ -1,15 +1,26 @@
 // The named machines: a table of where the name of each first stands in the text, and the number of a machine by its name.
 ghost use mathlib.Core.Path.{_≡_};
-ghost use Prim.Native.Nat.{_≤_};
+ghost use mathlib.Core.Bool.{true};
+ghost use Prim.Native.Nat.{_≤_, _<_};
 ghost use lib.Dec.{eqb};
-ghost use lib.ListN.{length, take};
+ghost use lib.ListN.{length};
 ghost use Rattle.json.specs.Tree.{same};
+ghost use Rattle.text.specs.Strings.{utf8};
+ghost use Rattle.values.specs.laws.Ordinary.{Ordinary};
 ghost use Rattle.index.specs.Index.{textAt};
 ghost use Rattle.named.specs.Named.{place, declaredAt, nameTable, countIn, numberAt};
 ghost use Rattle.named.specs.laws.Texts.{known};
 ghost use Rattle.named.specs.laws.Firsts.{isCalled};
+ghost use Rattle.named.specs.laws.Prints.{step, printFrom, printAt};
 ghost use Rattle.named.specs.laws.Held.{Added};
+ghost use Rattle.named.specs.laws.Kept.{Printed, Place};
 ghost use Rattle.named.specs.laws.Filled.{machineAt};
+
+// How many names the table holds so far, and at which place the next is looked for first: most entries name their machines in one order.
+struct Tally {
+    held: usize,
+    next: usize,
+}
 
 // The table of the names of machines 1, 2, .. by where each first stands, at most 32 of them, then zeros.
 pub fn fill(s: &[u8], ix: &[usize; 2470], names: &mut [usize; 32])
@@ -17,11 +28,12 @@ pub fn fill(s: &[u8], ix: &[usize; 2470], names: &mut [usize; 32])
 {
     let zeros: [usize; 32] = [0; 32];
     *names = zeros;
+    let mut prints: [u32; 32] = [0; 32];
     let entries = index::entries(ix);
-    let mut n: usize = 0;
+    let mut t = Tally { held: 0, next: 0 };
     let mut i: usize = 0;
     while i < entries {
-        n = add_entry(s, ix, i, names, n);
+        t = add_entry(s, ix, i, names, &mut prints, t);
         i += 1;
     }
 }
@@ -83,18 +95,25 @@ fn is_text(s: &[u8], p: usize, empty: bool, q: usize) -> bool
     values::same_texts(s, q, p)
 }
 
-// The names that entry i declares are added to the n of the table, which then holds as many as are returned.
-fn add_entry(s: &[u8], ix: &[usize; 2470], i: usize, names: &mut [usize; 32], n: usize) -> usize
-    requires { ⌜ (length (now names) ≡ 32) × (n ≤ 32) ⌝ }
-    ensures { λ r. ⌜ Added (now (s .entry)) (declaredAt (now (ix .entry)) i) (now (names .entry)) n (now (names .exit)) r ⌝ }
+// The names that entry i declares are added to those of the table.
+fn add_entry(
+    s: &[u8],
+    ix: &[usize; 2470],
+    i: usize,
+    names: &mut [usize; 32],
+    prints: &mut [u32; 32],
+    t: Tally,
+) -> Tally
+    requires { ⌜ (length (now names) ≡ 32) × (t .held ≤ 32) × Printed (now s) (now names) (now prints) (t .held) ⌝ }
+    ensures { λ r. ⌜ Added (now (s .entry)) (declaredAt (now (ix .entry)) i) (now (names .entry)) (t .held) (now (names .exit)) (r .held) × Printed (now (s .entry)) (now (names .exit)) (now (prints .exit)) (r .held) ⌝ }
 {
     let name = machine_name(ix, i);
-    let mut m = add(s, name, names, n);
+    let mut m = add(s, name, names, prints, t);
     let items = index::items(ix, i);
     let mut k: usize = 0;
     while k < items {
         let p = index::item(ix, i, k, 1);
-        m = add(s, p, names, m);
+        m = add(s, p, names, prints, m);
         k += 1;
     }
     m
@@ -110,36 +129,149 @@ fn machine_name(ix: &[usize; 2470], i: usize) -> usize
     index::col(ix, i, 2)
 }
 
-// The name at p is added to the n of the table, unless it is there or there is no room. Equal names are one machine.
-fn add(s: &[u8], p: usize, names: &mut [usize; 32], n: usize) -> usize
-    requires { ⌜ (length (now names) ≡ 32) × (n ≤ 32) ⌝ }
-    ensures { λ r. ⌜ Added (now (s .entry)) (place p) (now (names .entry)) n (now (names .exit)) r ⌝ }
+// The name at p is added to those of the table, unless it is there or there is no room. Equal names are one machine.
+fn add(s: &[u8], p: usize, names: &mut [usize; 32], prints: &mut [u32; 32], t: Tally) -> Tally
+    requires { ⌜ (length (now names) ≡ 32) × (t .held ≤ 32) × Printed (now s) (now names) (now prints) (t .held) ⌝ }
+    ensures { λ r. ⌜ Added (now (s .entry)) (place p) (now (names .entry)) (t .held) (now (names .exit)) (r .held) × Printed (now (s .entry)) (now (names .exit)) (now (prints .exit)) (r .held) ⌝ }
 {
     if p == 0 {
-        return n;
+        return t;
     }
+    let n = t.held;
     if n < 32 {
-        if holds(s, p, names, n) {
-            return n;
+        let k = place_of(s, p, names, prints, n, t.next);
+        if k < n {
+            return Tally {
+                held: n,
+                next: k + 1,
+            };
         }
         names[n] = p;
-        return n + 1;
+        prints[n] = print_at(s, p);
+        return Tally {
+            held: n + 1,
+            next: 0,
+        };
+    }
+    t
+}
+
+// At which place among the first n names the text at p stands; n if at none. Where it is expected is looked at first.
+fn place_of(
+    s: &[u8],
+    p: usize,
+    names: &[usize; 32],
+    prints: &[u32; 32],
+    n: usize,
+    expected: usize,
+) -> usize
+    requires { ⌜ (length (now names) ≡ 32) × (n ≤ 32) × Printed (now s) (now names) (now prints) n ⌝ }
+    ensures { λ r. ⌜ Place (now (s .entry)) p (now (names .entry)) n r ⌝ }
+{
+    if expected < n {
+        if values::same_texts(s, names[expected], p) {
+            return expected;
+        }
+    }
+    place_by_print(s, p, names, prints, n)
+}
+
+// The same by the prints of the names: only texts with one print are compared.
+fn place_by_print(s: &[u8], p: usize, names: &[usize; 32], prints: &[u32; 32], n: usize) -> usize
+    requires { ⌜ (length (now names) ≡ 32) × (n ≤ 32) × Printed (now s) (now names) (now prints) n ⌝ }
+    ensures { λ r. ⌜ Place (now (s .entry)) p (now (names .entry)) n r ⌝ }
+{
+    let print = print_at(s, p);
+    let mut k: usize = 0;
+    while k < n {
+        if prints[k] == print {
+            if same_by_print(s, p, names[k], print) {
+                return k;
+            }
+        }
+        k += 1;
     }
     n
 }
 
-// One of the first n names is the text at p.
-fn holds(s: &[u8], p: usize, names: &[usize; 32], n: usize) -> bool
-    requires { ⌜ (length (now names) ≡ 32) × (n ≤ 32) ⌝ }
-    ensures { λ r. ⌜ r ≡ known (now (s .entry)) p (take n (now (names .entry))) ⌝ }
+// The texts at p and q, which have one print, are the same. That of an empty text is 0, and of no other.
+fn same_by_print(s: &[u8], p: usize, q: usize, print: u32) -> bool
+    requires { ⌜ (print ≡ printAt (now s) p) × (print ≡ printAt (now s) q) ⌝ }
+    ensures { λ r. ⌜ r ≡ same (textAt (now (s .entry)) p) (textAt (now (s .entry)) q) ⌝ }
 {
-    let empty = index::length_at(s, p) == 0;
-    let mut k: usize = 0;
-    while k < n {
-        if is_text(s, p, empty, names[k]) {
-            return true;
-        }
-        k += 1;
+    if print == 0 {
+        return true;
     }
-    false
+    values::same_texts(s, q, p)
+}
+
+// ---- the print of a text: a number that equal texts share, and few others
+
+// A byte that is a character by itself, if it is no quote.
+fn ordinary(b: u32) -> bool
+    ensures { λ r. ⌜ (r ≡ true → Ordinary b) ⌝ }
+{
+    if b < 32 {
+        return false;
+    }
+    if 127 < b {
+        return false;
+    }
+    b != 92
+}
+
+// A print with one byte more.
+fn with_byte(print: u32, b: u32) -> u32
+    requires { ⌜ b < 65536 ⌝ }
+    ensures { λ r. ⌜ r ≡ step print b ⌝ }
+{
+    print % 16777216 * 31 + b + 1
+}
+
+// A print with the bytes of a code point more.
+fn with_code(print: u32, v: u32) -> u32
+    ensures { λ r. ⌜ r ≡ printFrom print (utf8 v) ⌝ }
+{
+    if v < 128 {
+        return with_byte(print, v);
+    }
+    if v < 2048 {
+        return with_byte(with_byte(print, 192 + v / 64), 128 + v % 64);
+    }
+    if v < 65536 {
+        let one = with_byte(print, 224 + v / 4096);
+        return with_byte(with_byte(one, 128 + v / 64 % 64), 128 + v % 64);
+    }
+    let one = with_byte(print, 240 + v / 262144);
+    let two = with_byte(one, 128 + v / 4096 % 64);
+    with_byte(with_byte(two, 128 + v / 64 % 64), 128 + v % 64)
+}
+
+// The print of the text at p: 0 of an empty text alone.
+pub fn print_at(s: &[u8], p: usize) -> u32
+    ensures { λ r. ⌜ r ≡ printAt (now (s .entry)) p ⌝ }
+{
+    if text::byte(s, p) != 34 {
+        return 0;
+    }
+    let mut i = p + 1;
+    let mut print: u32 = 0;
+    loop {
+        let b = text::byte(s, i);
+        if b == 34 {
+            return print;
+        }
+        if ordinary(b) {
+            print = with_byte(print, b);
+            i += 1;
+            continue;
+        }
+        match text::character(s, i) {
+            text::Code::Of(v, j) => {
+                print = with_code(print, v);
+                i = j;
+            }
+            text::Code::No(_) => return 0,
+        }
+    }
 }

@@ -1,8 +1,8 @@
 -- A rule is judged by a loop over the entries, whichever rule it is. Assumes nothing.
 use mathlib.Core.Path.{_≡_, refl, sym, ap, _∙_}
-use mathlib.Core.Bool.{Bool, true, false, true≢false}
+use mathlib.Core.Bool.{Bool, true, false}
 use mathlib.Core.List.{List}
-use Prim.Native.Nat.{ℕ, suc, _+_, _≤_, _<_}
+use Prim.Native.Nat.{ℕ, zero, suc, _+_, _≤_, _<_}
 use native.Mathlib.Omega.{arith}
 use Rattle.text.specs.Reading.{Text}
 use Rattle.manifest.specs.Rules.{Rule, applies}
@@ -32,16 +32,15 @@ module _ (r : Rule) (s : Text) (ix : List ℕ) where
             let e : suc i ≡ i + 1 = omega arith in
             inv ∙ entry-on r s ix i (omega arith) (sym eb ∙ f) ∙ ap (fromEntry r s ix) e
 
-    -- a rule that applies in no entry from number i on does not apply in this one, nor after it
-    module _ (none : fromEntry r s ix i ≡ false) (h : i < n) where
-      pub clear-here : inEntry r s ix i ≡ false
-      clear-here = go (inEntry r s ix i) refl
+  -- it applies if it applies in one of the entries, whichever
+  pub applies-in : r .outside (manifestOf s ix) ≡ false → (i : ℕ) → i < entriesIn ix → inEntry r s ix i ≡ true → applies r (manifestOf s ix) ≡ true
+  applies-in o i h e = applies-within r s ix o ∙ back i (entry-found r s ix i h e) h
+    where
+      -- from number i on, so from number 0 on
+      back : (i : ℕ) → fromEntry r s ix i ≡ true → i < entriesIn ix → fromEntry r s ix 0 ≡ true
+      back zero f g = f
+      back (suc j) f g = back j (go (inEntry r s ix j) refl) (omega arith)
         where
-          go : (b : Bool) → inEntry r s ix i ≡ b → b ≡ false
-          go true e = absurd (true≢false (sym (entry-found r s ix i (omega arith) e) ∙ none))
-          go false e = refl
-
-      pub clear-on : fromEntry r s ix (i + 1) ≡ false
-      clear-on =
-          let e : i + 1 ≡ suc i = omega arith in
-          ap (fromEntry r s ix) e ∙ sym (entry-on r s ix i (omega arith) clear-here) ∙ none
+          go : (b : Bool) → inEntry r s ix j ≡ b → fromEntry r s ix j ≡ true
+          go true e = entry-found r s ix j (omega arith) e
+          go false e = entry-on r s ix j (omega arith) e ∙ f

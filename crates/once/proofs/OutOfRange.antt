@@ -4,22 +4,14 @@ use mathlib.Core.Bool.{Bool, true, false, _||_}
 use mathlib.Core.List.{List, [], _++_}
 use Prim.Native.Nat.{ℕ, suc, _+_, _≤_, _<_}
 use native.Mathlib.Omega.{arith}
-use lib.IntN.{ℤ, pos}
-use lib.Signed.{ltZ}
-use mir.Syntax.{w64}
-use mir.Val.{ofZ, toZ, SFits}
-use mir.Facts.{toZ-ofZ}
+use lib.IntN.{ℤ}
 use Rattle.text.specs.Reading.{Text}
-use Rattle.values.specs.Integer.{integerAt}
-use Rattle.values.specs.declared.Integer.{Integer}
-use Rattle.values.specs.declared.Integer.the-variants.{In, Below, Above, None}
 use Rattle.manifest.specs.View.{Cell, absent, wrong, many, one}
 use Rattle.manifest.specs.Rows.{Item, id, ids, the, holds, any, flat}
 use Rattle.manifest.specs.Rules.{no-id, refusal-14-id-out-of-range}
 use Rattle.index.specs.Index.{itemOf, itemsIn, idCell, itemBy, entryAt}
 use Rattle.index.specs.laws.Entries.{from-past, from-here, itemAt, items-are}
 use Rattle.once.specs.laws.Parts.{inEntry, idsFrom}
-use Rattle.once.proofs.Ids.{Out-of-64, below, above, id-none, id-in, id-out, id-wrong}
 
 -- ---- the ids of an entry, one after the other
 
@@ -68,36 +60,3 @@ module _ (p : ℤ → Bool) (s : Text) (ix : List ℕ) (i : ℕ) {n : ℕ} (en :
 pub range-start : (s : Text) (ix : List ℕ) (i : ℕ) → inEntry refusal-14-id-out-of-range s ix i ≡ any no-id (idsFrom s ix i 0)
 unfolding refusal-14-id-out-of-range holds
 range-start s ix i = ap (any no-id) (ids-are s ix i)
-
--- ---- the id at a position
-
-module _ (s : Text) (p : ℕ) where
-  pub range-absent : p ≡ 0 → false ≡ holds no-id (idCell s p)
-  unfolding holds
-  range-absent h = sym (ap (holds no-id) (id-none s p h))
-
-  module _ (h : p ≡ 0 → ⊥) {q : Integer} (eq : q ≡ integerAt s p) where
-    module _ {z : ℤ} (e : q ≡ In z) (f : SFits w64 z) where
-      range-in : (ltZ (toZ w64 (ofZ w64 z)) (pos 0) || ltZ (pos 4294967295) (toZ w64 (ofZ w64 z))) ≡ holds no-id (idCell s p)
-      unfolding holds
-      range-in = ap no-id (toZ-ofZ f) ∙ sym (ap (holds no-id) (id-in s p h eq e))
-
-      pub range-low : ltZ (toZ w64 (ofZ w64 z)) (pos 0) ≡ true → ltZ (toZ w64 (ofZ w64 z)) (pos 0) ≡ holds no-id (idCell s p)
-      range-low t = t ∙ sym (ap (λ (b : Bool). b || ltZ (pos 4294967295) (toZ w64 (ofZ w64 z))) t) ∙ range-in
-
-      pub range-high : ltZ (toZ w64 (ofZ w64 z)) (pos 0) ≡ false → ltZ (pos 4294967295) (toZ w64 (ofZ w64 z)) ≡ holds no-id (idCell s p)
-      range-high t = sym (ap (λ (b : Bool). b || ltZ (pos 4294967295) (toZ w64 (ofZ w64 z))) t) ∙ range-in
-
-    range-out : {x : Integer} → Out-of-64 x → q ≡ x → true ≡ holds no-id (idCell s p)
-    unfolding holds
-    range-out o e = let (z, f, g) = id-out s p h eq o e in sym (ap (holds no-id) f ∙ g)
-
-    pub range-below : q ≡ Below → true ≡ holds no-id (idCell s p)
-    range-below e = range-out below e
-
-    pub range-above : q ≡ Above → true ≡ holds no-id (idCell s p)
-    range-above e = range-out above e
-
-    pub range-none : q ≡ None → false ≡ holds no-id (idCell s p)
-    unfolding holds
-    range-none e = sym (ap (holds no-id) (id-wrong s p h eq e))

@@ -1,14 +1,14 @@
 -- 15: an entry has the path of an earlier one, or an id twice. Ids that are in range are compared as numbers of a table. Assumes nothing.
-use mathlib.Core.Path.{_≡_, refl, sym, ap, _∙_}
-use mathlib.Core.Bool.{Bool, true, false, _||_, true≢false, or-false}
+use mathlib.Core.Path.{_≡_, refl, sym, ap, subst, _∙_}
+use mathlib.Core.Bool.{Bool, true, false, _||_, true≢false, or-true, or-false}
 use mathlib.Core.List.{List, [], _∷_, _++_, append-nil, append-assoc}
 use Prim.Native.Nat.{ℕ, zero, suc, _+_, _*_, _-_, _≤_, _<_, min}
 use native.Mathlib.Omega.{arith}
-use native.Mathlib.Decide.{ℕ-discrete}
+use native.Mathlib.Decide.{ℕ-discrete, decLt}
 use native.Mathlib.Nat.{min-le-left}
 use lib.Dec.{eqb}
 use lib.ListN.{length, getD, take, drop, set, length-set, drop-of-length-le}
-use lib.Seq.{drop-cons, getD-take, length-take-le, take-suc-set}
+use lib.Seq.{drop-cons, getD-take, getD-set-same, getD-set-other, length-take-le, take-suc-set}
 use lib.Signed.{ltZ, mag}
 use lib.IntN.{ℤ, pos, negsuc}
 use mir.Syntax.{w64}
@@ -17,6 +17,7 @@ use mir.Facts.{toZ-ofZ}
 use borrow.Author.Tests.{eq-eqb, ne-eqb, ltb-false}
 use Rattle.text.specs.Reading.{Text, pick}
 use Rattle.json.specs.Tree.{same}
+use Rattle.values.specs.Strings.{sameTexts}
 use Rattle.values.specs.Integer.{integerAt}
 use Rattle.values.specs.declared.Integer.{Integer}
 use Rattle.values.specs.declared.Integer.the-variants.{In, Below, Above, None}
@@ -26,10 +27,12 @@ use Rattle.manifest.specs.Rules.{no-id, same-id, twice-in, has-path, refusal-14
 use Rattle.manifest.specs.laws.Bools.{halves}
 use Rattle.index.specs.Index.{colOf, itemOf, entriesIn, itemsIn, textAt, textCell, idCell, listed, entryBy, entryAt, manifestOf}
 use Rattle.index.specs.laws.Entries.{from, any-past, any-found, any-on, entryCell, entries-are}
-use Rattle.once.specs.laws.Parts.{inEntry, idsFrom, pathBefore, idOf, idsIn}
+use Rattle.once.specs.laws.Parts.{inEntry, idsFrom, pathBefore, idOf, idsIn, Numbered, Told, Printed}
+use Rattle.named.specs.laws.Prints.{printAt, other-print, same-none, same-some}
+use Rattle.once.proofs.Loops.{applies-in}
 use Rattle.once.proofs.Cells.{at-none, at-some}
 use Rattle.once.proofs.Ids.{Out-of-64, below, above, id-none, id-in, id-out, id-wrong}
-use Rattle.once.proofs.OutOfRange.{ids-are, ids-past, ids-here, any-the, range-start}
+use Rattle.once.proofs.OutOfRange.{ids-are, ids-past, ids-here, ids-none, ids-found, ids-on, range-start}
 
 -- ---- paths
 
@@ -42,6 +45,52 @@ module _ (s : Text) (p q : ℕ) where
   pub path-some : (q ≡ 0 → ⊥) → {b : Bool} → b ≡ same (textAt s p) (textAt s q) → b ≡ holds (same (textAt s p)) (textCell s q)
   unfolding holds
   path-some h e = e ∙ sym (ap (holds (same (textAt s p))) (at-some q (one (textAt s q)) h))
+
+-- of texts with one print, both are empty or both are strings; with different prints they differ
+module _ (s : Text) (p q : ℕ) {print : ℕ} (its-print : print ≡ printAt s p) where
+  pub path-empty : (q ≡ 0 → ⊥) → print ≡ printAt s q → print ≡ 0 → true ≡ holds (same (textAt s p)) (textCell s q)
+  path-empty h e z = path-some s p q h (same-none s p q its-print e z)
+
+  pub path-string : (q ≡ 0 → ⊥) → (print ≡ 0 → ⊥) → {b : Bool} → b ≡ sameTexts s q p → b ≡ holds (same (textAt s p)) (textCell s q)
+  path-string h z f = path-some s p q h (same-some s p q its-print z f)
+
+  pub path-other : {other : ℕ} → other ≡ printAt s q → (other ≡ print → ⊥) → false ≡ holds (same (textAt s p)) (textCell s q)
+  path-other e n = go (ℕ-discrete q 0)
+    where
+      go : Dec (q ≡ 0) → false ≡ holds (same (textAt s p)) (textCell s q)
+      go (yes h) = path-none s p q h
+      go (no h) = path-some s p q h (sym (other-print s p q its-print e n))
+
+-- ---- the prints of the paths
+
+few-entries : (ix : List ℕ) → entriesIn ix ≤ 32
+unfolding entriesIn pick
+few-entries ix = go (eqb (getD ix 0 0) 0)
+  where
+    go : (b : Bool) → pick b 0 (min 32 (getD ix 5 0)) ≤ 32
+    go true = omega arith
+    go false = min-le-left 32 _
+
+module _ (s : Text) (ix : List ℕ) where
+  pub entries-few : {n : ℕ} → n ≡ entriesIn ix → n ≤ 32
+  entries-few e = omega (arith, few-entries ix)
+
+  pub printed-none : {prints : List ℕ} → length prints ≡ 32 → Printed s ix prints 0
+  printed-none e = record { long = e; each = λ j h. absurd (omega arith) }
+
+  pub printed-more : {prints : List ℕ} {n p v : ℕ} → n < 32 → Printed s ix prints n → p ≡ colOf ix n 0 → v ≡ printAt s p → Printed s ix (set prints n v) (n + 1)
+  printed-more {prints} {n} {p} {v} h a f e = record { long = length-set prints n v ∙ a .long; each = λ j b. go j b (ℕ-discrete j n) }
+    where
+      go : (j : ℕ) → j < n + 1 → Dec (j ≡ n) → getD (set prints n v) j 0 ≡ printAt s (colOf ix j 0)
+      go j b (yes q) =
+          let m : n < length prints = omega (arith, a .long) in
+          ap (λ (x : ℕ). getD (set prints n v) x 0) q ∙ getD-set-same prints n v 0 m ∙ e ∙ ap (printAt s) f ∙ ap (λ (x : ℕ). printAt s (colOf ix x 0)) (sym q)
+      go j b (no q) = let c : j < n = omega arith in getD-set-other prints n j v 0 q ∙ a .each j c
+
+  pub printed-all : {prints : List ℕ} {n j : ℕ} → n ≡ entriesIn ix → n ≤ j → Printed s ix prints j → Printed s ix prints (entriesIn ix)
+  printed-all e h a = record { long = a .long; each = λ k b. a .each k (omega arith) }
+
+-- ---- the entries before an entry
 
 take-listed : {A : Type 0} (f : ℕ → A) (j i n : ℕ) → i ≤ n → take i (listed f j n) ≡ listed f j i
 unfolding listed
@@ -116,35 +165,63 @@ module _ (z : ℤ) (r : no-id z ≡ false) where
       go (pos n) e = let q : n + 1 ≡ suc n = omega arith in ap idOf q
       go (negsuc n) e = absurd (true≢false e)
 
--- the id at p, in range
+-- an integer as a number: out of range, or one more than it is
+module _ (z : ℤ) where
+  out-number : no-id z ≡ true → Numbered (no-id z) (z ∷ []) 4294967297
+  out-number e = record { ranged = λ h. absurd (omega arith); past = λ _. e }
+
+  -- the two tests, of its 64 bits
+  module _ (f : SFits w64 z) where
+    same-low : ltZ z (pos 0) ≡ ltZ (toZ w64 (ofZ w64 z)) (pos 0)
+    same-low = ap (λ (y : ℤ). ltZ y (pos 0)) (sym (toZ-ofZ f))
+
+    same-high : ltZ (pos 4294967295) z ≡ ltZ (pos 4294967295) (toZ w64 (ofZ w64 z))
+    same-high = ap (ltZ (pos 4294967295)) (sym (toZ-ofZ f))
+
+    pub low-number : ltZ (toZ w64 (ofZ w64 z)) (pos 0) ≡ true → Numbered (no-id z) (z ∷ []) 4294967297
+    low-number e = out-number (ap (λ (b : Bool). b || ltZ (pos 4294967295) z) (same-low ∙ e))
+
+    module _ (l : ltZ (toZ w64 (ofZ w64 z)) (pos 0) ≡ false) where
+      pub high-number : ltZ (pos 4294967295) (toZ w64 (ofZ w64 z)) ≡ true → Numbered (no-id z) (z ∷ []) 4294967297
+      high-number e = out-number (ap (λ (b : Bool). b || ltZ (pos 4294967295) z) (same-low ∙ l) ∙ (same-high ∙ e))
+
+      pub is-ranged : ltZ (pos 4294967295) (toZ w64 (ofZ w64 z)) ≡ false → no-id z ≡ false
+      is-ranged e = ap (λ (b : Bool). b || ltZ (pos 4294967295) z) (same-low ∙ l) ∙ (same-high ∙ e)
+
+  pub ranged-number : no-id z ≡ false → Numbered (no-id z) (z ∷ []) (mag z + 1)
+  ranged-number r = record { ranged = λ _. (r, id-numbered z r); past = λ h. absurd (omega (arith, id-small z r)) }
+
+-- the id at p as a number
 module _ (s : Text) (p : ℕ) where
-  pub number-absent : p ≡ 0 → idOf 0 ≡ the (idCell s p)
-  unfolding idOf the
-  number-absent h = sym (ap the (id-none s p h))
+  by-cell : {c : Cell ℤ} {r : ℕ} → idCell s p ≡ c → Numbered (holds no-id c) (the c) r → Numbered (holds no-id (idCell s p)) (the (idCell s p)) r
+  by-cell {c} {r} e h = subst (λ (d : Cell ℤ). Numbered (holds no-id d) (the d) r) (sym e) h
 
-  module _ (r : holds no-id (idCell s p) ≡ false) (h : p ≡ 0 → ⊥) {q : Integer} (eq : q ≡ integerAt s p) where
-    module _ {z : ℤ} (e : q ≡ In z) (f : SFits w64 z) where
-      pub number-ranged : no-id (toZ w64 (ofZ w64 z)) ≡ false
-      unfolding holds
-      number-ranged = ap no-id (toZ-ofZ f) ∙ sym (ap (holds no-id) (id-in s p h eq e)) ∙ r
+  no-number : Numbered false [] 0
+  unfolding idOf
+  no-number = record { ranged = λ _. (refl, refl); past = λ h. absurd (omega arith) }
 
-      pub number-in : (v : ℕ) → idOf v ≡ toZ w64 (ofZ w64 z) ∷ [] → idOf v ≡ the (idCell s p)
-      unfolding the
-      number-in v g = g ∙ ap (λ (y : ℤ). y ∷ []) (toZ-ofZ f) ∙ sym (ap the (id-in s p h eq e))
+  pub number-absent : p ≡ 0 → Numbered (holds no-id (idCell s p)) (the (idCell s p)) 0
+  unfolding holds the
+  number-absent h = by-cell (id-none s p h) no-number
 
-    number-out : {x : Integer} → Out-of-64 x → q ≡ x → idOf 0 ≡ the (idCell s p)
-    unfolding holds
-    number-out o e = let (z, f, g) = id-out s p h eq o e in absurd (true≢false (sym g ∙ sym (ap (holds no-id) f) ∙ r))
+  module _ (h : p ≡ 0 → ⊥) {q : Integer} (eq : q ≡ integerAt s p) where
+    pub number-in : {z : ℤ} {r : ℕ} → q ≡ In z → SFits w64 z → Numbered (no-id (toZ w64 (ofZ w64 z))) (toZ w64 (ofZ w64 z) ∷ []) r → Numbered (holds no-id (idCell s p)) (the (idCell s p)) r
+    unfolding holds the
+    number-in {z} {r} e f g = by-cell (id-in s p h eq e) (subst (λ (y : ℤ). Numbered (no-id y) (y ∷ []) r) (toZ-ofZ f) g)
 
-    pub number-below : q ≡ Below → idOf 0 ≡ the (idCell s p)
+    number-out : {x : Integer} → Out-of-64 x → q ≡ x → Numbered (holds no-id (idCell s p)) (the (idCell s p)) 4294967297
+    unfolding holds the
+    number-out o e = let (z, f, g) = id-out s p h eq o e in by-cell f (out-number z g)
+
+    pub number-below : q ≡ Below → Numbered (holds no-id (idCell s p)) (the (idCell s p)) 4294967297
     number-below e = number-out below e
 
-    pub number-above : q ≡ Above → idOf 0 ≡ the (idCell s p)
+    pub number-above : q ≡ Above → Numbered (holds no-id (idCell s p)) (the (idCell s p)) 4294967297
     number-above e = number-out above e
 
-    pub number-none : q ≡ None → idOf 0 ≡ the (idCell s p)
-    unfolding idOf the
-    number-none e = sym (ap the (id-wrong s p h eq e))
+    pub number-none : q ≡ None → Numbered (holds no-id (idCell s p)) (the (idCell s p)) 0
+    unfolding holds the
+    number-none e = by-cell (id-wrong s p h eq e) no-number
 
 -- ---- the ids of entry i, put into a table
 
@@ -161,46 +238,44 @@ few-items ix i = go (eqb (colOf ix i 3) 0)
     go true = omega arith
     go false = min-le-left 32 _
 
--- the ids of the first k items are in the table, and those that are left are in range
+-- the ids of the first k items are in the table, and those that are left decide whether one is out of range
 pub record Reading (s : Text) (ix : List ℕ) (i k : ℕ) (table : List ℕ) : Type 0 where
   pub long : length table ≡ 32
   pub so : ids (entryAt s ix i) ≡ flat idOf (take k table) ++ idsFrom s ix i k
-  pub ranged : any no-id (idsFrom s ix i k) ≡ false
+  pub decides : inEntry refusal-14-id-out-of-range s ix i ≡ any no-id (idsFrom s ix i k)
 
 module _ (s : Text) (ix : List ℕ) (i : ℕ) where
-  pub reading-start : {table : List ℕ} → length table ≡ 32 → inEntry refusal-14-id-out-of-range s ix i ≡ false → Reading s ix i 0 table
+  pub reading-start : {table : List ℕ} → length table ≡ 32 → Reading s ix i 0 table
   unfolding flat
-  reading-start l e = record { long = l; so = ids-are s ix i; ranged = sym (range-start s ix i) ∙ e }
+  reading-start l = record { long = l; so = ids-are s ix i; decides = range-start s ix i }
 
   module _ {n : ℕ} (en : n ≡ itemsIn ix i) where
     pub items-few : n ≤ 32
     items-few = omega (arith, few-items ix i)
 
     module _ {k : ℕ} {table : List ℕ} (inv : Reading s ix i k table) where
-      pub reading-done : k ≤ n → n ≤ k → ids (entryAt s ix i) ≡ idsIn table n 0
+      pub reading-ranged : n ≤ k → false ≡ inEntry refusal-14-id-out-of-range s ix i
+      reading-ranged h = ids-none no-id s ix i en (inv .decides) h
+
+      pub reading-done : k ≤ n → n ≤ k → ids (entryAt s ix i) ≡ idsIn table (itemsIn ix i) 0
       unfolding idsIn
       reading-done g h =
           let q : k ≡ n = omega arith in
           inv .so
           ∙ ap (λ (l : List ℤ). flat idOf (take k table) ++ l) (ids-past s ix i k (omega arith))
           ∙ append-nil (flat idOf (take k table))
-          ∙ ap (λ (j : ℕ). flat idOf (take j table)) q
+          ∙ ap (λ (j : ℕ). flat idOf (take j table)) (q ∙ en)
 
       module _ (h : k < n) {q : ℕ} (eq : q ≡ itemOf ix i k 0) where
-        both-ranged : (holds no-id (idCell s (itemOf ix i k 0)) ≡ false) × (any no-id (idsFrom s ix i (suc k)) ≡ false)
-        both-ranged =
-            halves (holds no-id (idCell s (itemOf ix i k 0))) (any no-id (idsFrom s ix i (suc k)))
-            (sym (ap (any no-id) (ids-here s ix i k (omega arith)) ∙ any-the no-id (idCell s (itemOf ix i k 0)) (idsFrom s ix i (suc k))) ∙ inv .ranged)
+        pub reading-out : {v : ℕ} → Numbered (holds no-id (idCell s q)) (the (idCell s q)) v → 4294967296 < v → true ≡ inEntry refusal-14-id-out-of-range s ix i
+        reading-out e g = ids-found no-id s ix i en (inv .decides) h eq refl (e .past g)
 
-        pub reading-ranged : holds no-id (idCell s q) ≡ false
-        reading-ranged = ap (λ (x : ℕ). holds no-id (idCell s x)) eq ∙ both-ranged .0
-
-        pub reading-on : (v : ℕ) → idOf v ≡ the (idCell s q) → Reading s ix i (k + 1) (set table k v)
-        reading-on v e =
+        pub reading-on : (v : ℕ) → Numbered (holds no-id (idCell s q)) (the (idCell s q)) v → v ≤ 4294967296 → Reading s ix i (k + 1) (set table k v)
+        reading-on v e g =
             let w : suc k ≡ k + 1 = omega arith in
             let m : k < length table = omega (arith, inv .long, few-items ix i) in
             let new : take (k + 1) (set table k v) ≡ take k table ++ v ∷ [] = ap (λ (j : ℕ). take j (set table k v)) (sym w) ∙ take-suc-set table k v m in
-            let here : the (idCell s (itemOf ix i k 0)) ≡ idOf v = ap (λ (x : ℕ). the (idCell s x)) (sym eq) ∙ sym e in
+            let here : the (idCell s (itemOf ix i k 0)) ≡ idOf v = ap (λ (x : ℕ). the (idCell s x)) (sym eq) ∙ sym (e .ranged g .1) in
             record {
               long = simp length-set (inv .long);
               so =
@@ -208,7 +283,7 @@ module _ (s : Text) (ix : List ℕ) (i : ℕ) where
                   ∙ ap (λ (l : List ℤ). flat idOf (take k table) ++ l) (ids-here s ix i k (omega arith) ∙ (λ t. here t ++ idsFrom s ix i (w t)))
                   ∙ sym (append-assoc (flat idOf (take k table)) (idOf v) (idsFrom s ix i (k + 1)))
                   ∙ ap (λ (l : List ℤ). l ++ idsFrom s ix i (k + 1)) (sym (flat-more (take k table) v) ∙ ap (flat idOf) (sym new));
-              ranged = ap (λ (j : ℕ). any no-id (idsFrom s ix i j)) (sym w) ∙ both-ranged .1;
+              decides = ids-on no-id s ix i en (inv .decides) h eq refl (e .ranged g .0);
             }
 
 -- ---- the numbers of a table
@@ -247,6 +322,24 @@ twice-more : (v : ℕ) (l : List ℤ) → twice-in (idOf v ++ l) ≡ (any (λ z.
 unfolding twice-in any idOf
 twice-more zero l = refl
 twice-more (suc m) l = ap (λ (b : Bool). b || twice-in l) (sym (or-false (any (same-id (pos m)) l)))
+
+-- each of the numbers from place 1 up to place k is greater than the one before it
+abbrev pub RisesTo : List ℕ → ℕ → Type 0
+RisesTo table k = (j : ℕ) → j + 1 < k → getD table j 0 < getD table (j + 1) 0
+
+module _ (table : List ℕ) where
+  pub rises-none : RisesTo table 1
+  rises-none j h = absurd (omega arith)
+
+  pub rises-more : {k : ℕ} → 1 ≤ k → RisesTo table k → getD table (k - 1) 0 < getD table k 0 → RisesTo table (k + 1)
+  rises-more {k} g r h j l = go (decLt (j + 1) k)
+    where
+      go : Dec (j + 1 < k) → getD table j 0 < getD table (j + 1) 0
+      go (yes m) = r j m
+      go (no m) =
+          let p : k - 1 ≡ j = omega arith in
+          let q : k ≡ j + 1 = omega arith in
+          subst (λ (x : ℕ). getD table j 0 < getD table x 0) q (subst (λ (x : ℕ). getD table x 0 < getD table k 0) p h)
 
 module _ (table : List ℕ) {n : ℕ} (long : length table ≡ 32) (few : n ≤ 32) where
   its : (k : ℕ) → k < n → drop k (take n table) ≡ getD table k 0 ∷ drop (suc k) (take n table)
@@ -308,14 +401,89 @@ module _ (table : List ℕ) {n : ℕ} (long : length table ≡ 32) (few : n ≤ 
           ∙ ap (λ (b : Bool). b || numberFrom (suc k)) (ne-eqb (getD table k 0) v e)
           ∙ ap numberFrom w
 
--- ---- 15 in entry i
+  -- numbers that rise
+  module _ (rises : RisesTo table n) where
+    rises-on : (k : ℕ) → suc k < n → getD table k 0 < getD table (suc k) 0
+    rises-on k m =
+        let q : suc k ≡ k + 1 = omega arith in
+        let r : getD table k 0 < getD table (k + 1) 0 = rises k (omega arith) in
+        let w : getD table (suc k) 0 ≡ getD table (k + 1) 0 = ap (λ (x : ℕ). getD table x 0) q in
+        omega arith
 
-module _ (s : Text) (ix : List ℕ) (i : ℕ) where
-  module _ {a : Bool} (ea : a ≡ pathBefore s ix i) where
-    pub entry-path : a ≡ true → true ≡ inEntry refusal-15-path-or-id-twice s ix i
-    unfolding refusal-15-path-or-id-twice holds pathBefore
-    entry-path e = sym (ap (λ (c : Bool). c || twice-in (ids (entryAt s ix i))) (sym ea ∙ e))
+    none-of : (l : List ℤ) {v : ℕ} → v ≡ 0 → any (λ z. any (same-id z) l) (idOf v) ≡ false
+    unfolding any idOf
+    none-of l {v} h = ap (λ (u : ℕ). any (λ z. any (same-id z) l) (idOf u)) h
 
-    pub entry-id : a ≡ false → {b : Bool} → b ≡ twice-in (ids (entryAt s ix i)) → b ≡ inEntry refusal-15-path-or-id-twice s ix i
-    unfolding refusal-15-path-or-id-twice holds pathBefore
-    entry-id e f = f ∙ sym (ap (λ (c : Bool). c || twice-in (ids (entryAt s ix i))) (sym ea ∙ e))
+    -- d numbers from place k on: what is less than the first of them is none of them, and none stands twice
+    less-than : (v d k : ℕ) → k + d ≡ n → (k < n → v < getD table k 0) → any (λ u. eqb u v) (drop k (take n table)) ≡ false
+    unfolding any
+    less-than v zero k e h = ap (any (λ u. eqb u v)) (no-more k (omega arith))
+    less-than v (suc d) k e h =
+        let l : k < n = omega arith in
+        let b : v < getD table k 0 = h l in
+        ap (any (λ u. eqb u v)) (its k l)
+        ∙ ap (λ (c : Bool). c || any (λ u. eqb u v) (drop (suc k) (take n table))) (ne-eqb (getD table k 0) v (λ x. omega arith))
+        ∙ less-than v d (suc k) (omega arith) (λ m. let r : getD table k 0 < getD table (suc k) 0 = rises-on k m in omega arith)
+
+    none-again : (d k : ℕ) → suc k + d ≡ n → any (λ z. any (same-id z) (flat idOf (drop (suc k) (take n table)))) (idOf (getD table k 0)) ≡ false
+    none-again d k e = go (ℕ-discrete (getD table k 0) 0)
+      where
+        go : Dec (getD table k 0 ≡ 0) → any (λ z. any (same-id z) (flat idOf (drop (suc k) (take n table)))) (idOf (getD table k 0)) ≡ false
+        go (yes h) = none-of (flat idOf (drop (suc k) (take n table))) h
+        go (no h) = among-some (getD table k 0) (drop (suc k) (take n table)) h ∙ less-than (getD table k 0) d (suc k) e (λ m. rises-on k m)
+
+    once-each : (d k : ℕ) → k + d ≡ n → twice-in (flat idOf (drop k (take n table))) ≡ false
+    unfolding twice-in flat
+    once-each zero k e = ap (λ (l : List ℕ). twice-in (flat idOf l)) (no-more k (omega arith))
+    once-each (suc d) k e =
+        let f : suc k + d ≡ n = omega arith in
+        ap (λ (l : List ℕ). twice-in (flat idOf l)) (its k (omega arith))
+        ∙ twice-more (getD table k 0) (flat idOf (drop (suc k) (take n table)))
+        ∙ (λ j. none-again d k f j || once-each d (suc k) f j)
+
+    pub rises-once : twice-in (idsIn table n 0) ≡ false
+    unfolding idsIn
+    rises-once = once-each n 0 (omega arith)
+
+-- ---- 15 in entry i, and what is known of the ids of all
+
+module _ (s : Text) (ix : List ℕ) where
+  within-15 : (i : ℕ) → inEntry refusal-15-path-or-id-twice s ix i ≡ (pathBefore s ix i || twice-in (ids (entryAt s ix i)))
+  unfolding refusal-15-path-or-id-twice holds pathBefore
+  within-15 i = refl
+
+  -- no id stands twice: the path decides
+  pub path-decides : {n i : ℕ} {a : Bool} → Told s ix n false → i < n → a ≡ pathBefore s ix i → a ≡ inEntry refusal-15-path-or-id-twice s ix i
+  path-decides {n} {i} t h e = e ∙ sym (or-false (pathBefore s ix i)) ∙ ap (λ (b : Bool). pathBefore s ix i || b) (sym (t .none refl i h)) ∙ sym (within-15 i)
+
+  pub told-false : {n : ℕ} {a : Bool} → Told s ix n a → a ≡ false → Told s ix n false
+  told-false {n} t e = subst (Told s ix n) e t
+
+  pub told-none : Told s ix 0 false
+  told-none = record { found = λ e. absurd (true≢false (sym e)); none = λ e j h. absurd (omega arith) }
+
+  -- one entry more: an id stands twice in it, or none
+  module _ {i : ℕ} {t b : Bool} (et : t ≡ twice-in (ids (entryAt s ix i))) where
+    pub told-found : i < entriesIn ix → t ≡ true → b ≡ true → Told s ix (i + 1) b
+    unfolding refusal-15-path-or-id-twice
+    told-found h e f =
+        record {
+          found = λ _. applies-in refusal-15-path-or-id-twice s ix refl i h (within-15 i ∙ ap (λ (c : Bool). pathBefore s ix i || c) (sym et ∙ e) ∙ or-true (pathBefore s ix i));
+          none = λ g. absurd (true≢false (sym f ∙ g));
+        }
+
+    pub told-on : {a : Bool} → Told s ix i a → t ≡ false → b ≡ a → Told s ix (i + 1) b
+    told-on k e f = record { found = λ g. k .found (sym f ∙ g); none = λ g j l. go g j l (decLt j i) }
+      where
+        go : b ≡ false → (j : ℕ) → j < i + 1 → Dec (j < i) → twice-in (ids (entryAt s ix j)) ≡ false
+        go g j l (yes m) = k .none (sym f ∙ g) j m
+        go g j l (no m) =
+            let q : j ≡ i = omega arith in
+            ap (λ (x : ℕ). twice-in (ids (entryAt s ix x))) q ∙ (sym et ∙ e)
+
+  pub told-all : {n i : ℕ} {a : Bool} → n ≡ entriesIn ix → n ≤ i → Told s ix i a → Told s ix (entriesIn ix) a
+  told-all e h k = record { found = k .found; none = λ f j g. k .none f j (omega arith) }
+
+  -- the numbers of a table tell it
+  pub twice-told : (i : ℕ) (table : List ℕ) {n : ℕ} {b : Bool} → n ≡ itemsIn ix i → ids (entryAt s ix i) ≡ idsIn table (itemsIn ix i) 0 → b ≡ twice-in (idsIn table n 0) → b ≡ twice-in (ids (entryAt s ix i))
+  twice-told i table e f g = g ∙ ap (λ (m : ℕ). twice-in (idsIn table m 0)) e ∙ ap twice-in (sym f)

@@ -1,24 +1,26 @@
 // Refusals 14 to 18: ids, what stands twice, and members that ask for others.
 ghost use mathlib.Core.Path.{_≡_};
-ghost use mathlib.Core.Bool.{false};
+ghost use mathlib.Core.Bool.{true, false};
 ghost use mathlib.Core.List.{[], _∷_};
 ghost use Prim.Native.Nat.{_≤_, _<_};
 ghost use lib.ListN.{length};
 ghost use Rattle.json.specs.Tree.{same};
 ghost use Rattle.manifest.specs.Rows.{the, holds, any, ids};
 ghost use Rattle.manifest.specs.Rules.{applies, first, no-id, same-id, twice-in, refusal-14-id-out-of-range, refusal-15-path-or-id-twice, refusal-16-clocks-without-sync-to, refusal-17-machine-without-file, refusal-18-sync-to-without-file};
-ghost use Rattle.index.specs.Index.{entriesIn, textAt, textCell, idCell, entryAt, manifestOf};
+ghost use Rattle.index.specs.Index.{entriesIn, itemsIn, textAt, textCell, idCell, entryAt, manifestOf};
+ghost use Rattle.named.specs.laws.Prints.{printAt};
 ghost use Rattle.once.specs.Once.{once-rules};
-ghost use Rattle.once.specs.laws.Parts.{inEntry, pathBefore, idOf, idsIn};
+ghost use Rattle.once.specs.laws.Parts.{inEntry, pathBefore, idOf, idsIn, Numbered, Told, Printed};
 
 // The number of the first of these rules that applies to the manifest; 0 if none does.
 pub fn refusal(s: &[u8], ix: &[usize; 2470]) -> u8
     ensures { λ r. ⌜ r ≡ first once-rules (manifestOf (now (s .entry)) (now (ix .entry))) ⌝ }
 {
-    if refusal_14_id_out_of_range(s, ix) {
+    let found = ids_judged(s, ix);
+    if found.out {
         return 14;
     }
-    if refusal_15_path_or_id_twice(s, ix) {
+    if refusal_15_path_or_id_twice(s, ix, found.twice) {
         return 15;
     }
     if refusal_16_clocks_without_sync_to(s, ix) {
@@ -33,157 +35,112 @@ pub fn refusal(s: &[u8], ix: &[usize; 2470]) -> u8
     0
 }
 
-// ---- 14
+// ---- 14, and the ids of 15
 
-// `id` integer outside 0 to 4294967295.
-fn refusal_14_id_out_of_range(s: &[u8], ix: &[usize; 2470]) -> bool
-    ensures { λ r. ⌜ r ≡ applies refusal-14-id-out-of-range (manifestOf (now (s .entry)) (now (ix .entry))) ⌝ }
+// What is found of ids: one is out of range; one stands twice in an entry. Twice is looked for only where none is out of range.
+struct Found {
+    out: bool,
+    twice: bool,
+}
+
+// `id` integer outside 0 to 4294967295, in any entry; and an id twice in one `machines`.
+fn ids_judged(s: &[u8], ix: &[usize; 2470]) -> Found
+    ensures { λ r. ⌜ (r .out ≡ applies refusal-14-id-out-of-range (manifestOf (now (s .entry)) (now (ix .entry)))) × (r .out ≡ false → Told (now (s .entry)) (now (ix .entry)) (entriesIn (now (ix .entry))) (r .twice)) ⌝ }
 {
     let n = index::entries(ix);
+    let mut twice = false;
     let mut i: usize = 0;
     while i < n {
-        if id_out_of_range_in(s, ix, i) {
-            return true;
+        let found = ids_in(s, ix, i);
+        if found.out {
+            return Found {
+                out: true,
+                twice: false,
+            };
+        }
+        if found.twice {
+            twice = true;
         }
         i += 1;
     }
-    false
+    Found { out: false, twice }
 }
 
-// 14 in entry i.
-fn id_out_of_range_in(s: &[u8], ix: &[usize; 2470], i: usize) -> bool
-    ensures { λ r. ⌜ r ≡ inEntry refusal-14-id-out-of-range (now (s .entry)) (now (ix .entry)) i ⌝ }
-{
-    let n = index::items(ix, i);
-    let mut k: usize = 0;
-    while k < n {
-        if no_id(s, index::item(ix, i, k, 0)) {
-            return true;
-        }
-        k += 1;
-    }
-    false
-}
-
-// An id stands at a position, and is out of range.
-fn no_id(s: &[u8], p: usize) -> bool
-    ensures { λ r. ⌜ r ≡ holds no-id (idCell (now (s .entry)) p) ⌝ }
-{
-    if p == 0 {
-        return false;
-    }
-    match values::integer_at(s, p) {
-        values::Integer::In(z) => z < 0 || 4294967295 < z,
-        values::Integer::Below => true,
-        values::Integer::Above => true,
-        values::Integer::None => false,
-    }
-}
-
-// ---- 15
-
-// Path in two entries, or id twice in one `machines`. Ids are compared in 64 bits, so 14 is asked first.
-fn refusal_15_path_or_id_twice(s: &[u8], ix: &[usize; 2470]) -> bool
-    requires { ⌜ applies refusal-14-id-out-of-range (manifestOf (now s) (now ix)) ≡ false ⌝ }
-    ensures { λ r. ⌜ r ≡ applies refusal-15-path-or-id-twice (manifestOf (now (s .entry)) (now (ix .entry))) ⌝ }
-{
-    let n = index::entries(ix);
-    let mut i: usize = 0;
-    while i < n {
-        if path_or_id_twice_in(s, ix, i) {
-            return true;
-        }
-        i += 1;
-    }
-    false
-}
-
-// 15 in entry i.
-fn path_or_id_twice_in(s: &[u8], ix: &[usize; 2470], i: usize) -> bool
-    requires { ⌜ (i < entriesIn (now ix)) × (inEntry refusal-14-id-out-of-range (now s) (now ix) i ≡ false) ⌝ }
-    ensures { λ r. ⌜ r ≡ inEntry refusal-15-path-or-id-twice (now (s .entry)) (now (ix .entry)) i ⌝ }
-{
-    if path_before(s, ix, i) {
-        return true;
-    }
-    id_twice(s, ix, i)
-}
-
-// Entry i has the path of an entry before it.
-fn path_before(s: &[u8], ix: &[usize; 2470], i: usize) -> bool
-    requires { ⌜ i < entriesIn (now ix) ⌝ }
-    ensures { λ r. ⌜ r ≡ pathBefore (now (s .entry)) (now (ix .entry)) i ⌝ }
-{
-    let p = index::col(ix, i, 0);
-    if p == 0 {
-        return false;
-    }
-    let mut j: usize = 0;
-    while j < i {
-        if same_path(s, p, index::col(ix, j, 0)) {
-            return true;
-        }
-        j += 1;
-    }
-    false
-}
-
-// A path stands at q, and it is the text at p.
-fn same_path(s: &[u8], p: usize, q: usize) -> bool
-    ensures { λ r. ⌜ r ≡ holds (same (textAt (now (s .entry)) p)) (textCell (now (s .entry)) q) ⌝ }
-{
-    if q == 0 {
-        return false;
-    }
-    index::same_at(s, p, q)
-}
-
-// Entry i has an id twice. Each id is read once, and they are compared as numbers of a table.
-fn id_twice(s: &[u8], ix: &[usize; 2470], i: usize) -> bool
-    requires { ⌜ inEntry refusal-14-id-out-of-range (now s) (now ix) i ≡ false ⌝ }
-    ensures { λ r. ⌜ r ≡ twice-in (ids (entryAt (now (s .entry)) (now (ix .entry)) i)) ⌝ }
+// The same of entry i. Each id is read once, and they are compared as numbers of a table.
+fn ids_in(s: &[u8], ix: &[usize; 2470], i: usize) -> Found
+    ensures { λ r. ⌜ (r .out ≡ inEntry refusal-14-id-out-of-range (now (s .entry)) (now (ix .entry)) i) × (r .out ≡ false → r .twice ≡ twice-in (ids (entryAt (now (s .entry)) (now (ix .entry)) i))) ⌝ }
 {
     let mut table: [u64; 32] = [0; 32];
-    let n = read_ids(s, ix, i, &mut table);
-    number_twice(&table, n)
+    if read_ids(s, ix, i, &mut table) {
+        return Found {
+            out: true,
+            twice: false,
+        };
+    }
+    let n = index::items(ix, i);
+    let twice = number_twice(&table, n);
+    Found { out: false, twice }
 }
 
-// The ids of entry i as the first numbers of a table, as many as are returned.
-fn read_ids(s: &[u8], ix: &[usize; 2470], i: usize, table: &mut [u64; 32]) -> usize
-    requires { ⌜ (length (now table) ≡ 32) × (inEntry refusal-14-id-out-of-range (now s) (now ix) i ≡ false) ⌝ }
-    ensures { λ r. ⌜ (r ≤ 32) × (length (now (table .exit)) ≡ 32) × (ids (entryAt (now (s .entry)) (now (ix .entry)) i) ≡ idsIn (now (table .exit)) r 0) ⌝ }
+// An id of entry i is out of range; else its ids are the first numbers of a table, as many as it has items.
+fn read_ids(s: &[u8], ix: &[usize; 2470], i: usize, table: &mut [u64; 32]) -> bool
+    requires { ⌜ length (now table) ≡ 32 ⌝ }
+    ensures { λ r. ⌜ (r ≡ inEntry refusal-14-id-out-of-range (now (s .entry)) (now (ix .entry)) i) × (length (now (table .exit)) ≡ 32) × (r ≡ false → ids (entryAt (now (s .entry)) (now (ix .entry)) i) ≡ idsIn (now (table .exit)) (itemsIn (now (ix .entry)) i) 0) ⌝ }
 {
     let n = index::items(ix, i);
     let mut k: usize = 0;
     while k < n {
-        table[k] = id_number(s, index::item(ix, i, k, 0));
+        let v = id_number(s, index::item(ix, i, k, 0));
+        if 4294967296 < v {
+            return true;
+        }
+        table[k] = v;
         k += 1;
     }
-    n
+    false
 }
 
-// The id at a position as a number; 0 where there is none.
+// The id at a position as a number; 0 where there is none, and more than 4294967296 for one that is out of range.
 fn id_number(s: &[u8], p: usize) -> u64
-    requires { ⌜ holds no-id (idCell (now s) p) ≡ false ⌝ }
-    ensures { λ r. ⌜ idOf r ≡ the (idCell (now (s .entry)) p) ⌝ }
+    ensures { λ r. ⌜ Numbered (holds no-id (idCell (now (s .entry)) p)) (the (idCell (now (s .entry)) p)) r ⌝ }
 {
     if p == 0 {
         return 0;
     }
     match values::integer_at(s, p) {
-        values::Integer::In(z) => one_more(z),
-        values::Integer::Below => 0,
-        values::Integer::Above => 0,
+        values::Integer::In(z) => number_of(z),
+        values::Integer::Below => 4294967297,
+        values::Integer::Above => 4294967297,
         values::Integer::None => 0,
     }
 }
 
-// One more than an id, since 0 stands for none.
-fn one_more(z: i64) -> u64
-    requires { ⌜ no-id z ≡ false ⌝ }
-    ensures { λ r. ⌜ idOf r ≡ z ∷ [] ⌝ }
+// One more than an id, since 0 stands for none; more than 4294967296 for an integer out of range.
+fn number_of(z: i64) -> u64
+    ensures { λ r. ⌜ Numbered (no-id z) (z ∷ []) r ⌝ }
 {
+    if z < 0 {
+        return 4294967297;
+    }
+    if 4294967295 < z {
+        return 4294967297;
+    }
     z as u64 + 1
+}
+
+// Each of the first n numbers of a table is greater than the one before it, so no two are the same. Most ids are listed so.
+fn rising(table: &[u64; 32], n: usize) -> bool
+    requires { ⌜ (length (now table) ≡ 32) × (n ≤ 32) ⌝ }
+    ensures { λ r. ⌜ (r ≡ true → twice-in (idsIn (now (table .entry)) n 0) ≡ false) ⌝ }
+{
+    let mut k: usize = 1;
+    while k < n {
+        if table[k] <= table[k - 1] {
+            return false;
+        }
+        k += 1;
+    }
+    true
 }
 
 // Two of the first n numbers of a table stand for one id.
@@ -191,6 +148,9 @@ fn number_twice(table: &[u64; 32], n: usize) -> bool
     requires { ⌜ (length (now table) ≡ 32) × (n ≤ 32) ⌝ }
     ensures { λ r. ⌜ r ≡ twice-in (idsIn (now (table .entry)) n 0) ⌝ }
 {
+    if rising(table, n) {
+        return false;
+    }
     let mut k: usize = 0;
     while k < n {
         if number_among(table, n, table[k], k + 1) {
@@ -217,6 +177,78 @@ fn number_among(table: &[u64; 32], n: usize, v: u64, from: usize) -> bool
         k += 1;
     }
     false
+}
+
+// ---- 15
+
+// Path in two entries, or id twice in one `machines`; whether an id stands twice is known.
+fn refusal_15_path_or_id_twice(s: &[u8], ix: &[usize; 2470], twice: bool) -> bool
+    requires { ⌜ Told (now s) (now ix) (entriesIn (now ix)) twice ⌝ }
+    ensures { λ r. ⌜ r ≡ applies refusal-15-path-or-id-twice (manifestOf (now (s .entry)) (now (ix .entry))) ⌝ }
+{
+    if twice {
+        return true;
+    }
+    let mut prints: [u32; 32] = [0; 32];
+    print_paths(s, ix, &mut prints);
+    let n = index::entries(ix);
+    let mut i: usize = 0;
+    while i < n {
+        if path_before(s, ix, i, &prints) {
+            return true;
+        }
+        i += 1;
+    }
+    false
+}
+
+// The prints of the entries' paths.
+fn print_paths(s: &[u8], ix: &[usize; 2470], prints: &mut [u32; 32])
+    requires { ⌜ length (now prints) ≡ 32 ⌝ }
+    ensures { λ _. ⌜ Printed (now (s .entry)) (now (ix .entry)) (now (prints .exit)) (entriesIn (now (ix .entry))) ⌝ }
+{
+    let n = index::entries(ix);
+    let mut k: usize = 0;
+    while k < n {
+        prints[k] = named::print_at(s, index::col(ix, k, 0));
+        k += 1;
+    }
+}
+
+// Entry i has the path of an entry before it. Only paths with one print are compared.
+fn path_before(s: &[u8], ix: &[usize; 2470], i: usize, prints: &[u32; 32]) -> bool
+    requires { ⌜ (i < entriesIn (now ix)) × Printed (now s) (now ix) (now prints) (entriesIn (now ix)) ⌝ }
+    ensures { λ r. ⌜ r ≡ pathBefore (now (s .entry)) (now (ix .entry)) i ⌝ }
+{
+    let p = index::col(ix, i, 0);
+    if p == 0 {
+        return false;
+    }
+    let print = prints[i];
+    let mut j: usize = 0;
+    while j < i {
+        if prints[j] == print {
+            if same_path(s, p, index::col(ix, j, 0), print) {
+                return true;
+            }
+        }
+        j += 1;
+    }
+    false
+}
+
+// A path stands at q, and it is the text at p. The texts have one print; that of an empty text is 0, and of no other.
+fn same_path(s: &[u8], p: usize, q: usize, print: u32) -> bool
+    requires { ⌜ (print ≡ printAt (now s) p) × (print ≡ printAt (now s) q) ⌝ }
+    ensures { λ r. ⌜ r ≡ holds (same (textAt (now (s .entry)) p)) (textCell (now (s .entry)) q) ⌝ }
+{
+    if q == 0 {
+        return false;
+    }
+    if print == 0 {
+        return true;
+    }
+    values::same_texts(s, q, p)
 }
 
 // ---- 16

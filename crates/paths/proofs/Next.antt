@@ -2,19 +2,21 @@
 use Prim.Native.Nat.{ℕ, zero, suc, _+_, _-_, _≤_, _<_, zero-le}
 use native.Mathlib.Omega.{arith}
 use mathlib.Core.Bool.{Bool, true, false, _&&_, true≢false}
-use mathlib.Core.Path.{_≡_, refl, sym, _∙_}
+use mathlib.Core.Path.{_≡_, refl, sym, ap, _∙_}
 use mathlib.Core.List.{List}
 use lib.ListN.{getD}
 use borrow.Author.Count.{below-more}
-use borrow.Author.Tests.{lt-ltb, eq-eqb, ne-eqb}
+use borrow.Author.Tests.{lt-ltb, eq-eqb, ne-eqb, eqb-true}
+use lib.Dec.{eqb}
 use Rattle.paths.specs.Paths.{Net, dist, nearer, next}
-use Rattle.paths.specs.laws.Least.{and-both, least-is}
+use Rattle.paths.specs.laws.Least.{and-both, and-right, not-so, least-is}
 use Rattle.numbers.specs.Numbers.{clocks}
 use Rattle.paths.specs.Matrix.{far, pairOf, isGraph, held, empty, graphOf, distances}
 use Rattle.paths.specs.laws.Reach.{dist-in, dist-le, at-goal, goal-at, outside}
 use Rattle.paths.specs.laws.Best.{next-is, next-zero, next-far}
 use Rattle.paths.specs.laws.Graph.{Whole, graph-whole, graph-held, graph-empty, graph-far, graph-near}
 use Rattle.paths.specs.laws.Table.{at-distances}
+use Rattle.paths.specs.laws.Listed.{Sources, Stands, near-counts, listed-before}
 
 and-false : (b : Bool) → (b && false) ≡ false
 and-false true = refl
@@ -44,8 +46,9 @@ module _ (g : Net) (c : ℕ) where
             let n = next-is g k c e s in
             true≢false (sym (near-yes (next g c) (n .pair) (omega (arith, n .near))) ∙ none (next g c) (n .below))
 
--- the scan for the next clock of c, at distance k: no clock below d is a neighbour that is one pair nearer
-pub record Scan (m : List ℕ) (n t : ℕ) (ds : List ℕ) (c k d : ℕ) : Type 0 where
+-- the scan for the next clock of c, at distance k, over the w clocks that count, listed in ls: none of the first d is a neighbour that is
+-- one pair nearer
+pub record Scan (m : List ℕ) (n t : ℕ) (ls : List ℕ) (w : ℕ) (ds : List ℕ) (c k d : ℕ) : Type 0 where
   pub whole : Whole m n t
   pub same : graphOf m n t ≡ held m n t
   pub inside : c < n
@@ -53,8 +56,9 @@ pub record Scan (m : List ℕ) (n t : ℕ) (ds : List ℕ) (c k d : ℕ) : Type 
   pub some : k < far
   pub here : k ≡ dist (held m n t) c
   pub dists : (i : ℕ) → i < n → getD ds i 0 ≡ dist (held m n t) i
-  pub upto : d ≤ n
-  pub none : (j : ℕ) → j < d → nearer (held m n t) c j ≡ false
+  pub listed : Sources (held m n t) ls w
+  pub upto : d ≤ w
+  pub none : (i : ℕ) → i < d → nearer (held m n t) c (getD ls i 0) ≡ false
 
 module _ (m : List ℕ) (n t c : ℕ) {ds : List ℕ} (e : ds ≡ distances (graphOf m n t)) (h : c < clocks) where
   -- a clock without a path
@@ -62,8 +66,8 @@ module _ (m : List ℕ) (n t c : ℕ) {ds : List ℕ} (e : ds ≡ distances (gra
   scan-far f = sym (next-far (graphOf m n t) c (sym (at-distances (graphOf m n t) e c h) ∙ f ∙ sym (graph-far m n t)))
 
   -- where the scan begins
-  pub scan-start : (c ≡ t → ⊥) → (getD ds c 0 ≡ far → ⊥) → Scan m n t ds c (getD ds c 0) 0
-  scan-start ne nf =
+  pub scan-start : {ls : List ℕ} {w : ℕ} → Sources (graphOf m n t) ls w → (c ≡ t → ⊥) → (getD ds c 0 ≡ far → ⊥) → Scan m n t ls w ds c (getD ds c 0) 0
+  scan-start l ne nf =
       let some : dist (graphOf m n t) c < far = omega (arith, at-distances (graphOf m n t) e c h, graph-far m n t, dist-le (graphOf m n t) c) in
       let q : isGraph m n t ≡ true = graph-near m n t c some in
       let w : Whole m n t = graph-whole m n t q in
@@ -76,6 +80,7 @@ module _ (m : List ℕ) (n t c : ℕ) {ds : List ℕ} (e : ds ≡ distances (gra
         some = omega (arith, at-distances (graphOf m n t) e c h);
         here = here;
         dists = λ i l. at-distances (held m n t) e′ i (omega arith);
+        listed = rw (graph-held m n t q) at l;
         upto = zero-le;
         none = λ j l. absurd (omega arith);
       }
@@ -84,18 +89,37 @@ module _ (m : List ℕ) (n t c : ℕ) {ds : List ℕ} (e : ds ≡ distances (gra
       above zero q = absurd (ne (at-goal (held m n t) c (sym q) (omega arith)))
       above (suc k) q = omega arith
 
-module _ {m : List ℕ} {n t : ℕ} {ds : List ℕ} {c k d : ℕ} (s : Scan m n t ds c k d) where
+module _ {m : List ℕ} {n t : ℕ} {ls : List ℕ} {w : ℕ} {ds : List ℕ} {c k d : ℕ} (s : Scan m n t ls w ds c k d) where
+  -- a neighbour one pair nearer has a path, so it is listed
+  near-stands : (j : ℕ) → j < n → nearer (held m n t) c j ≡ true → Stands ls w j
+  near-stands j l b =
+      let e : suc (dist (held m n t) j) ≡ dist (held m n t) c = eqb-true _ _ (and-right (pairOf m n c j) (eqb (suc (dist (held m n t) j)) (dist (held m n t) c)) b) in
+      s .listed .all j l (near-counts (held m n t) j (omega (arith, s .some, s .here)))
+
   -- no clock is left: this cannot be
-  pub scan-end : n ≤ d → ⊥
-  scan-end h = next-missing (held m n t) c (omega (arith, s .up, s .here)) (omega (arith, s .some, s .here)) (λ j l. s .none j (omega arith))
+  pub scan-end : w ≤ d → ⊥
+  scan-end h =
+      next-missing (held m n t) c (omega (arith, s .up, s .here)) (omega (arith, s .some, s .here))
+      (λ j l. not-so (nearer (held m n t) c j) (λ b. missing j b (near-stands j l b)))
+    where
+      missing : (j : ℕ) → nearer (held m n t) c j ≡ true → Stands ls w j → ⊥
+      missing j b v = true≢false (sym b ∙ ap (nearer (held m n t) c) (sym (v .2)) ∙ s .none (v .0) (omega (arith, v .1)))
 
-  module _ (l : d < n) where
-    pub scan-found : getD ds d 0 ≡ k - 1 → pairOf m n c d ≡ true → d ≡ next (graphOf m n t) c
+  module _ (l : d < w) where
+    pub here-in : getD ls d 0 < n
+    here-in = s .listed .below d l
+
+    pub scan-found : getD ds (getD ls d 0) 0 ≡ k - 1 → pairOf m n c (getD ls d 0) ≡ true → getD ls d 0 ≡ next (graphOf m n t) c
     scan-found e a =
-        let near : nearer (held m n t) c d ≡ true = near-yes (held m n t) c d a (omega (arith, s .dists d l, s .here, s .up)) in
-        rw (s .same) (sym (next-found (held m n t) c (omega (arith, s .up, s .here)) (omega (arith, s .some, s .here)) d l near (s .none)))
+        let near : nearer (held m n t) c (getD ls d 0) ≡ true = near-yes (held m n t) c (getD ls d 0) a (omega (arith, s .dists (getD ls d 0) here-in, s .here, s .up)) in
+        rw (s .same)
+        (sym (next-found (held m n t) c (omega (arith, s .up, s .here)) (omega (arith, s .some, s .here)) (getD ls d 0) here-in near (λ j h. not-so (nearer (held m n t) c j) (λ b. before j h b (near-stands j (omega (arith, here-in)) b)))))
+      where
+        -- a smaller one would stand before it in the list
+        before : (j : ℕ) → j < getD ls d 0 → nearer (held m n t) c j ≡ true → Stands ls w j → ⊥
+        before j h b v = true≢false (sym b ∙ ap (nearer (held m n t) c) (sym (v .2)) ∙ s .none (v .0) (listed-before (s .listed) (v .1) l (omega (arith, v .2))))
 
-    scan-more : nearer (held m n t) c d ≡ false → Scan m n t ds c k (d + 1)
+    scan-more : nearer (held m n t) c (getD ls d 0) ≡ false → Scan m n t ls w ds c k (d + 1)
     scan-more e = record {
       whole = s .whole;
       same = s .same;
@@ -104,15 +128,16 @@ module _ {m : List ℕ} {n t : ℕ} {ds : List ℕ} {c k d : ℕ} (s : Scan m n 
       some = s .some;
       here = s .here;
       dists = s .dists;
+      listed = s .listed;
       upto = omega arith;
       none = below-more _ d (s .none) e;
     }
 
-    pub scan-no-pair : pairOf m n c d ≡ false → Scan m n t ds c k (d + 1)
-    scan-no-pair a = scan-more (near-not-pair (held m n t) c d a)
+    pub scan-no-pair : pairOf m n c (getD ls d 0) ≡ false → Scan m n t ls w ds c k (d + 1)
+    scan-no-pair a = scan-more (near-not-pair (held m n t) c (getD ls d 0) a)
 
-    pub scan-not-near : (getD ds d 0 ≡ k - 1 → ⊥) → Scan m n t ds c k (d + 1)
-    scan-not-near q = scan-more (near-not-one (held m n t) c d (λ e. q (omega (arith, s .dists d l, s .here))))
+    pub scan-not-near : (getD ds (getD ls d 0) 0 ≡ k - 1 → ⊥) → Scan m n t ls w ds c k (d + 1)
+    scan-not-near q = scan-more (near-not-one (held m n t) c (getD ls d 0) (λ e. q (omega (arith, s .dists (getD ls d 0) here-in, s .here))))
 
 -- the target names itself, also where there is no graph
 pub next-target : (m : List ℕ) (n t : ℕ) → next (graphOf m n t) t ≡ t

@@ -16,6 +16,8 @@ use borrow.Author.Count.{below-more}
 use Rattle.paths.specs.Paths.{Net, reach}
 use Rattle.paths.specs.laws.Reach.{reach-step, reach-here}
 use Rattle.paths.specs.laws.Cert.{Closed, Cert}
+use Rattle.paths.specs.laws.Listed.{Sources, Stands}
+use Rattle.paths.specs.laws.Listed.Counts.{leads}
 
 -- how many of the first m elements are far
 unfoldable pub unset : ℕ → List ℕ → ℕ → ℕ
@@ -62,9 +64,9 @@ pub record State (g : Net) (cap : ℕ) (ds qs : List ℕ) (head tail : ℕ) : Ty
   pub shut : (i : ℕ) → i < g .size → getD ds i 0 < g .far → Waits qs head tail i ⊎ Closed g (λ j. getD ds j 0) i
   pub past : (i : ℕ) → g .size ≤ i → i < cap → getD ds i 0 ≡ g .far
 
--- the neighbours below d of the clock c that is expanded have been looked at
-abbrev pub Seen : Net → List ℕ → ℕ → ℕ → Type 0
-Seen g ds c d = (j : ℕ) → j < d → g .adj j c ≡ true → getD ds j 0 ≤ getD ds c 0 + 1
+-- of the clocks in the list the first d have been looked at from the clock c that is expanded
+abbrev pub Seen : Net → List ℕ → List ℕ → ℕ → ℕ → Type 0
+Seen g ls ds c d = (i : ℕ) → i < d → g .adj (getD ls i 0) c ≡ true → getD ds (getD ls i 0) 0 ≤ getD ds c 0 + 1
 
 -- the queue has run out
 pub done : {g : Net} {cap : ℕ} {ds qs : List ℕ} {head tail : ℕ} → State g cap ds qs head tail → tail ≤ head → Cert g (λ i. getD ds i 0)
@@ -76,7 +78,7 @@ done {g} {cap} {ds} {qs} {head} {tail} s h = record {
 }
 
 -- the clock at the head has been expanded
-pub advance : {g : Net} {cap : ℕ} {ds qs : List ℕ} {head tail : ℕ} → State g cap ds qs head tail → head < tail → Seen g ds (getD qs head 0) (g .size) → State g cap ds qs (head + 1) tail
+pub advance : {g : Net} {cap : ℕ} {ds qs : List ℕ} {head tail : ℕ} → State g cap ds qs head tail → head < tail → Closed g (λ j. getD ds j 0) (getD qs head 0) → State g cap ds qs (head + 1) tail
 advance {g} {cap} {ds} {qs} {head} {tail} s h seen = record {
   fits = s .fits;
   goal-in = s .goal-in;
@@ -206,8 +208,8 @@ module _ {g : Net} {cap : ℕ} {ds qs : List ℕ} {head tail e : ℕ} (s : State
   pub dist-kept : getD ds′ (getD qs head 0) 0 ≡ getD ds (getD qs head 0) 0
   dist-kept = keeps (getD qs head 0) (s .known head h)
 
-  pub seen-put : Seen g ds (getD qs head 0) e → Seen g ds′ (getD qs head 0) (e + 1)
-  seen-put t = below-more _ e (λ j m b. omega (arith, drops j, dist-kept, t j m b)) (λ b. omega (arith, new, dist-kept))
+  pub seen-put : (ls : List ℕ) (d : ℕ) → getD ls d 0 ≡ e → Seen g ls ds (getD qs head 0) d → Seen g ls ds′ (getD qs head 0) (d + 1)
+  seen-put ls d q t = below-more _ d (λ i m b. omega (arith, drops (getD ls i 0), dist-kept, t i m b)) (rw q (λ b. omega (arith, new, dist-kept)))
 
 -- where the search begins
 module _ (g : Net) (cap : ℕ) (fits : g .size < g .far) (big : g .size ≤ cap) (goal-in : g .goal < g .size) where
@@ -270,16 +272,18 @@ module _ (g : Net) (cap : ℕ) (fits : g .size < g .far) (big : g .size ≤ cap)
     past = λ i m l. getD-set-other (replicate cap (g .far)) (g .goal) i 0 0 (λ q. omega arith) ∙ getD-replicate cap i (g .far) 0 l;
   }
 
--- a turn begins: the clocks below d have been looked at from the head of the queue
-pub record Turn (g : Net) (cap : ℕ) (ds qs : List ℕ) (head tail d : ℕ) : Type 0 where
+-- a turn begins: of the m clocks that count, listed in ls, the first d have been looked at from the head of the queue
+pub record Turn (g : Net) (cap : ℕ) (ls : List ℕ) (m : ℕ) (ds qs : List ℕ) (head tail d : ℕ) : Type 0 where
   pub state : State g cap ds qs head tail
-  pub seen : Seen g ds (getD qs head 0) d
-  pub upto : d ≤ g .size
+  pub seen : Seen g ls ds (getD qs head 0) d
+  pub upto : d ≤ m
+  pub listed : Sources g ls m
 
-pub turn-start : (g : Net) (cap : ℕ) → g .size < g .far → g .size ≤ cap → g .goal < g .size → Turn g cap (set (replicate cap (g .far)) (g .goal) 0) (set (replicate cap 0) 0 (g .goal)) 0 1 0
-turn-start g cap f b h = record { state = start g cap f b h; seen = λ j m b. absurd (omega arith); upto = zero-le }
+pub turn-start : (g : Net) (cap : ℕ) {ls : List ℕ} {m : ℕ} → g .size < g .far → g .size ≤ cap → g .goal < g .size → Sources g ls m
+    → Turn g cap ls m (set (replicate cap (g .far)) (g .goal) 0) (set (replicate cap 0) 0 (g .goal)) 0 1 0
+turn-start g cap f b h s = record { state = start g cap f b h; seen = λ j m b. absurd (omega arith); upto = zero-le; listed = s }
 
-module _ {g : Net} {cap : ℕ} {ds qs : List ℕ} {head tail d : ℕ} (s : Turn g cap ds qs head tail d) where
+module _ {g : Net} {cap : ℕ} {ls : List ℕ} {m : ℕ} {ds qs : List ℕ} {head tail d : ℕ} (s : Turn g cap ls m ds qs head tail d) where
   -- the queue has run out
   pub turn-done : tail ≤ head → Cert g (λ i. getD ds i 0)
   turn-done h = done (s .state) h
@@ -294,43 +298,53 @@ module _ {g : Net} {cap : ℕ} {ds qs : List ℕ} {head tail d : ℕ} (s : Turn 
     pub head-small : getD ds (getD qs head 0) 0 < tail
     head-small = s .state .small (getD qs head 0) head-in (s .state .known head h)
 
-    -- all have been looked at
-    pub turn-next : d ≡ g .size → Turn g cap ds qs (head + 1) tail 0
+    -- all have been looked at: from a clock that isn't listed no pair leads to the head
+    pub turn-next : d ≡ m → Turn g cap ls m ds qs (head + 1) tail 0
     turn-next e = record {
-      state = advance (s .state) h (λ j l b. s .seen j (omega arith) b);
+      state = advance (s .state) h (λ j l b. looked j b (s .listed .all j l (leads (getD qs head 0) head-in b)));
       seen = λ j m b. absurd (omega arith);
       upto = zero-le;
+      listed = s .listed;
     }
+      where
+        looked : (j : ℕ) → g .adj j (getD qs head 0) ≡ true → Stands ls m j → getD ds j 0 ≤ getD ds (getD qs head 0) 0 + 1
+        looked j b w = (rw (w .2) at (s .seen (w .0) (omega (arith, w .1)))) b
 
-    module _ (not-all : d ≡ g .size → ⊥) where
-      l : d < g .size
-      l = omega (arith, s .upto)
+    module _ (not-all : d ≡ m → ⊥) where
+      more : d < m
+      more = omega (arith, s .upto)
 
-      -- d has a distance, or no pair leads from it to the head
-      pub turn-skip : (g .adj d (getD qs head 0) ≡ true → getD ds d 0 ≡ g .far → ⊥) → Turn g cap ds qs head tail (d + 1)
+      pub here-in : getD ls d 0 < g .size
+      here-in = s .listed .below d more
+
+      -- the clock has a distance, or no pair leads from it to the head
+      pub turn-skip : (g .adj (getD ls d 0) (getD qs head 0) ≡ true → getD ds (getD ls d 0) 0 ≡ g .far → ⊥) → Turn g cap ls m ds qs head tail (d + 1)
       turn-skip n = record {
         state = s .state;
-        seen = below-more _ d (s .seen) (λ b. near (ℕ-discrete (getD ds d 0) (g .far)) b);
-        upto = omega arith;
+        seen = below-more _ d (s .seen) (λ b. near (ℕ-discrete (getD ds (getD ls d 0) 0) (g .far)) b);
+        upto = omega (arith, more);
+        listed = s .listed;
       }
         where
-          near : Dec (getD ds d 0 ≡ g .far) → g .adj d (getD qs head 0) ≡ true → getD ds d 0 ≤ getD ds (getD qs head 0) 0 + 1
+          near : Dec (getD ds (getD ls d 0) 0 ≡ g .far) → g .adj (getD ls d 0) (getD qs head 0) ≡ true → getD ds (getD ls d 0) 0 ≤ getD ds (getD qs head 0) 0 + 1
           near (yes q) b = absurd (n b q)
-          near (no q) b = s .state .top h d l (omega (arith, s .state .bound d l))
+          near (no q) b = s .state .top h (getD ls d 0) here-in (omega (arith, s .state .bound (getD ls d 0) here-in))
 
-      module _ (u : getD ds d 0 ≡ g .far) where
+      module _ (u : getD ds (getD ls d 0) 0 ≡ g .far) where
         pub turn-room : tail < g .size
-        turn-room = room (s .state) h l u
+        turn-room = room (s .state) h here-in u
 
-        pub turn-put : g .adj d (getD qs head 0) ≡ true → Turn g cap (set ds d (getD ds (getD qs head 0) 0 + 1)) (set qs tail d) head (tail + 1) (d + 1)
+        pub turn-put : g .adj (getD ls d 0) (getD qs head 0) ≡ true
+            → Turn g cap ls m (set ds (getD ls d 0) (getD ds (getD qs head 0) 0 + 1)) (set qs tail (getD ls d 0)) head (tail + 1) (d + 1)
         turn-put a = record {
-          state = put (s .state) h l u a;
-          seen = rw (head-kept (s .state) h l u) (seen-put (s .state) h l u (s .seen));
-          upto = omega arith;
+          state = put (s .state) h here-in u a;
+          seen = rw (head-kept (s .state) h here-in u) (seen-put (s .state) h here-in u ls d refl (s .seen));
+          upto = omega (arith, more);
+          listed = s .listed;
         }
 
 -- what is left to look at gets less when the next clock comes to the head
-pub left-next : (n head d : ℕ) → head < n → (n - (head + 1)) * suc n + (n - 0) < (n - head) * suc n + (n - d)
-left-next n head d h =
+pub left-next : (n m head d : ℕ) → head < n → (n - (head + 1)) * suc m + (m - 0) < (n - head) * suc m + (m - d)
+left-next n m head d h =
     let e : n - head ≡ suc (n - (head + 1)) = omega arith in
-    rw e (omega (arith, suc-mul (n - (head + 1)) (suc n)))
+    rw e (omega (arith, suc-mul (n - (head + 1)) (suc m)))

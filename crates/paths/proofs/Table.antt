@@ -24,7 +24,7 @@ table-empty m n t e =
     (distances-is empty (replicate clocks far) (length-replicate clocks far) (λ c h. getD-replicate clocks c far 0 h ∙ sym (outside empty c zero-le)))
 
 -- a graph: the array when the queue has run out
-pub table-done : (m : List ℕ) (n t : ℕ) {ds qs : List ℕ} {head tail d : ℕ} → isGraph m n t ≡ true → Turn (held m n t) clocks ds qs head tail d → tail ≤ head → ds ≡ distances (graphOf m n t)
+pub table-done : (m : List ℕ) (n t : ℕ) {ls : List ℕ} {w : ℕ} {ds qs : List ℕ} {head tail d : ℕ} → isGraph m n t ≡ true → Turn (held m n t) clocks ls w ds qs head tail d → tail ≤ head → ds ≡ distances (graphOf m n t)
 table-done m n t {ds} e s h =
     rw (graph-held m n t e) (distances-is (held m n t) ds (s .state .room-d) (λ c l. at c l (decLt c n)))
   where

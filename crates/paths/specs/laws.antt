@@ -8,3 +8,4 @@ pub mod Along
 pub mod Table
 pub mod Graph
 pub mod Traced
+pub mod Listed

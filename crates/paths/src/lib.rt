@@ -1,11 +1,13 @@
 // The best paths to a target in a graph of clocks, which a matrix of bytes holds.
 ghost use mathlib.Core.Path.{_≡_};
+ghost use mathlib.Core.Bool.{false};
 ghost use mathlib.Core.List.{_++_};
 ghost use Prim.Native.Nat.{ℕ, _*_, _≤_, _<_};
 ghost use lib.ListN.{length, getD, drop, replicate};
 ghost use Rattle.numbers.specs.Numbers.{clocks};
 ghost use Rattle.paths.specs.Paths.{next};
-ghost use Rattle.paths.specs.Matrix.{pairOf, isGraph, graphOf, distances, nexts, along, traced};
+ghost use Rattle.paths.specs.Matrix.{pairOf, isGraph, held, graphOf, distances, nexts, along, traced};
+ghost use Rattle.paths.specs.laws.Listed.{Counts, Bare, Sources};
 
 // No path: more than any distance.
 const FAR: u16 = 65535;
@@ -45,9 +47,72 @@ fn pair(matrix: &[u8], n: usize, c: usize, d: usize) -> bool
     0 < matrix[c * n + d]
 }
 
+// The larger of two bytes.
+fn larger(a: u8, b: u8) -> u8
+    ensures { λ r. ⌜ (a ≤ r) × (b ≤ r) ⌝ }
+{
+    if a < b { b } else { a }
+}
+
+// Whether a pair leads from clock c. All of its row is looked at, with no way out between, since that becomes a few instructions for 16
+// bytes together.
+fn has_pair(matrix: &[u8], n: usize, c: usize) -> bool
+    requires { ⌜ (length (now matrix) ≡ n * n) × (n ≤ clocks) × (c < n) ⌝ }
+    ensures { λ r. ⌜ (r ≡ false → Bare (now (matrix .entry)) n c) ⌝ }
+{
+    let row = c * n;
+    let mut most: u8 = 0;
+    let mut d: usize = 0;
+    while d < n {
+        most = larger(most, matrix[row + d]);
+        d += 1;
+    }
+    0 < most
+}
+
+// Whether c is the target or a pair leads from it.
+fn is_source(matrix: &[u8], n: usize, target: usize, c: usize) -> bool
+    requires { ⌜ (length (now matrix) ≡ n * n) × (n ≤ clocks) × (c < n) ⌝ }
+    ensures { λ r. ⌜ (r ≡ false → Counts (held (now (matrix .entry)) n target) c → ⊥) ⌝ }
+{
+    if c == target {
+        return true;
+    }
+    has_pair(matrix, n, c)
+}
+
+// Lists the target and the clocks from which a pair leads, in rising order, and answers how many they are: most often a few, and no other
+// clock has a path or is on one.
+fn list_sources(matrix: &[u8], n: usize, target: usize, out: &mut [u16]) -> usize
+    requires { ⌜ length (now out) ≡ clocks ⌝ }
+    ensures { λ r. ⌜ Sources (graphOf (now (matrix .entry)) n target) (now (out .exit)) r ⌝ }
+{
+    if !is_graph(matrix, n, target) {
+        return 0;
+    }
+    let mut count: usize = 0;
+    let mut c: usize = 0;
+    while c < n {
+        let e = c;
+        c += 1;
+        if is_source(matrix, n, target, e) {
+            out[count] = e as u16;
+            count += 1;
+        }
+    }
+    count
+}
+
 // The distance of each clock, breadth first from the target. The queue holds the clocks that have a distance, in the order in which
-// they got it; each turn looks whether a pair leads from one clock to the clock at the queue's head.
-fn distances(matrix: &[u8], n: usize, target: usize) -> [u16; numbers::CLOCKS]
+// they got it; each turn looks whether a pair leads from one clock of the list to the clock at the queue's head.
+fn distances(
+    matrix: &[u8],
+    n: usize,
+    target: usize,
+    list: &[u16],
+    count: usize,
+) -> [u16; numbers::CLOCKS]
+    requires { ⌜ Sources (graphOf (now matrix) n target) (now list) count × (length (now list) ≡ clocks) ⌝ }
     ensures { λ r. ⌜ r ≡ distances (graphOf (now (matrix .entry)) n target) ⌝ }
 {
     let mut dist = [FAR; numbers::CLOCKS];
@@ -61,12 +126,12 @@ fn distances(matrix: &[u8], n: usize, target: usize) -> [u16; numbers::CLOCKS]
     let mut tail: usize = 1;
     let mut d: usize = 0;
     while head < tail {
-        if d == n {
+        if d == count {
             head += 1;
             d = 0;
         } else {
             let c = queue[head] as usize;
-            let e = d;
+            let e = list[d] as usize;
             d += 1;
             if dist[e] == FAR {
                 if pair(matrix, n, e, c) {
@@ -80,15 +145,18 @@ fn distances(matrix: &[u8], n: usize, target: usize) -> [u16; numbers::CLOCKS]
     dist
 }
 
-// The clock after c on its best path: the smallest neighbour that is one pair nearer. The target and a clock without a path
-// name themselves.
+// The clock after c on its best path: the smallest neighbour that is one pair nearer, which is listed since it has a path. The target and a
+// clock without a path name themselves.
 fn next_from(
     matrix: &[u8],
     n: usize,
     target: usize,
+    list: &[u16],
+    count: usize,
     dist: &[u16; numbers::CLOCKS],
     c: usize,
 ) -> usize
+    requires { ⌜ Sources (graphOf (now matrix) n target) (now list) count × (length (now list) ≡ clocks) ⌝ }
     requires { ⌜ now dist ≡ distances (graphOf (now matrix) n target) ⌝ }
     requires { ⌜ c < clocks ⌝ }
     ensures { λ r. ⌜ r ≡ next (graphOf (now (matrix .entry)) n target) c ⌝ }
@@ -101,8 +169,8 @@ fn next_from(
         return c;
     }
     let mut d: usize = 0;
-    while d < n {
-        let e = d;
+    while d < count {
+        let e = list[d] as usize;
         d += 1;
         if dist[e] == k - 1 {
             if pair(matrix, n, c, e) {
@@ -117,11 +185,13 @@ fn next_from(
 pub fn search(matrix: &[u8], n: usize, target: usize) -> Found
     ensures { λ r. ⌜ (r .dist ≡ distances (graphOf (now (matrix .entry)) n target)) × (r .next ≡ nexts (graphOf (now (matrix .entry)) n target)) ⌝ }
 {
-    let dist = distances(matrix, n, target);
+    let mut list = [0u16; numbers::CLOCKS];
+    let count = list_sources(matrix, n, target, &mut list);
+    let dist = distances(matrix, n, target, &list, count);
     let mut next = [0u16; numbers::CLOCKS];
     let mut c: usize = 0;
     while c < numbers::CLOCKS {
-        let d = next_from(matrix, n, target, &dist, c);
+        let d = next_from(matrix, n, target, &list, count, &dist, c);
         next[c] = d as u16;
         c += 1;
     }

@@ -4,7 +4,6 @@ use mathlib.Core.Bool.{Bool}
 use mathlib.Core.List.{List, [], _∷_}
 use Prim.Native.Nat.{ℕ, _+_, _-_, _≤_, _<_}
 use native.Mathlib.Omega.{arith}
-use native.Mathlib.Nat.{zero-add}
 use lib.ListN.{length}
 use borrow.Author.Tests.{eq-eqb, ne-eqb}
 use Rattle.text.specs.Reading.{Text, Out, done, bad, deep, peek, scan}
@@ -12,7 +11,7 @@ use Rattle.text.specs.Class.{skip}
 use Rattle.text.specs.Strings.{string}
 use Rattle.text.specs.declared.Scan.{Scan}
 use Rattle.text.specs.declared.Scan.the-variants.{Done}
-use Rattle.text.specs.laws.Peek.{skip-ge, skip-le, found-in}
+use Rattle.text.specs.laws.Peek.{skip-ge}
 use Rattle.text.specs.laws.Readers.{past-done, next-was, pick-true, pick-false}
 use Rattle.json.specs.Tree.{Tree, same}
 use Rattle.json.specs.Document.{value, name, many}
@@ -24,7 +23,7 @@ use Rattle.places.specs.declared.Step.{Step}
 use Rattle.places.specs.declared.Step.the-variants.{Item, End}
 use Rattle.places.specs.declared.Entry.{Entry}
 use Rattle.places.specs.declared.Entry.the-variants.{Named, Last}
-use Rattle.places.specs.Places.{inner, place, item-place, named-place, value-place, member-place, listed, itemsAt, membersAt, placesOf, counted, memberAt, sizeAt, itemOf, itemFrom, entryOf, entryFrom}
+use Rattle.places.specs.Places.{inner, named-place, value-place, member-place, listed, membersAt, placesOf, counted, memberAt, itemOf, itemFrom, entryOf, entryFrom}
 use Rattle.places.specs.laws.Tally.{noted, tally, none, counted-is, tally-member}
 use Rattle.places.specs.laws.Standing.{name-string, member-inv}
 use Rattle.places.proofs.Turns.{result, Left, many-none, many-some, turn-none, turn-last, turn-wrong, turn-more}
@@ -58,17 +57,6 @@ item-was-none v o e = record { never = λ t j f. no (sym (ap (itemOf v) f) ∙ e
   where
     no : {j : ℕ} → Item v j ≡ End → ⊥
     no g = let z : _≡_ {A = ℕ} 0 1 = cc in omega arith
-
-module _ (s : Text) (v : ℕ) {r : Step} (er : r ≡ itemFrom s v) where
-  pub placed : {a j : ℕ} → r ≡ Item a j → (item-place s v ≡ done v j) × (v ≡ a) × (v ≤ j)
-  unfolding itemFrom item-place place
-  placed f =
-      let w = item-was v (value inner s v) (sym er ∙ f) in
-      (next-was _ (w .1), w .2, past-done (value inner) (value-forward inner) s v (w .1))
-
-  pub unplaced : r ≡ End → Stops (item-place s v)
-  unfolding itemFrom item-place
-  unplaced f = stops-next _ _ (item-was-none v (value inner s v) (sym er ∙ f))
 
 -- ---- a member
 
@@ -147,15 +135,6 @@ listed-result f (bad p) = refl
 listed-result f (deep p) = refl
 
 module _ (s : Text) (p : ℕ) where
-  pub size-none : (peek s p ≡ 91 → ⊥) → 0 ≡ sizeAt s p
-  unfolding sizeAt itemsAt
-  size-none h = sym (ap length (pick-false _ _ (ne-eqb _ _ h)))
-
-  pub size-is : peek s p ≡ 91 → result (λ (xs : List ℕ). 0 + length xs) 0 (many item-place 93 s (p + 1)) ≡ sizeAt s p
-  unfolding sizeAt itemsAt
-  size-is h =
-      sym (listed-result (λ (xs : List ℕ). 0 + length xs) (many item-place 93 s (p + 1))) ∙ zero-add _ ∙ ap length (sym (pick-true _ _ (eq-eqb _ _ h)))
-
   module _ (n : Text) where
     pub member-none : (peek s p ≡ 123 → ⊥) → none ≡ memberAt s p n
     unfolding memberAt membersAt placesOf counted
@@ -168,40 +147,6 @@ module _ (s : Text) (p : ℕ) where
         ∙ ap (λ (ms : List (Text × ℕ)). counted (placesOf n ms)) (sym (pick-true _ _ (eq-eqb _ _ h)))
 
 -- ---- the loops
-
--- n items were passed, and what is left is at i
-pub record Sizing (s : Text) (p n i : ℕ) : Type 0 where
-  pub few : n ≤ i
-  pub inside : i ≤ length s
-  pub left : Left item-place 93 s (λ (xs : List ℕ). n + length xs) 0 (sizeAt s p) i
-
-module _ (s : Text) (p : ℕ) {b i d : ℕ} (eb : b ≡ peek s p) (hb : b ≡ 91) (ei : i ≡ skip s (p + 1)) (ed : d ≡ peek s i) where
-  pub size-empty : d ≡ 93 → 0 ≡ sizeAt s p
-  size-empty h = many-none item-place 93 s (λ (xs : List ℕ). 0 + length xs) 0 (p + 1) ei ed (size-is s p (sym eb ∙ hb)) h
-
-  pub size-start : (d ≡ 93 → ⊥) → Sizing s p 0 i
-  size-start h =
-      record {
-        few = omega arith;
-        inside = omega (arith, skip-le s (p + 1) (omega (arith, found-in s p eb hb tt)));
-        left = many-some item-place 93 s (λ (xs : List ℕ). 0 + length xs) 0 (p + 1) ei ed (size-is s p (sym eb ∙ hb)) h;
-      }
-
-module _ (s : Text) (p n i : ℕ) (l : Sizing s p n i) {r : Step} (er : r ≡ itemFrom s i) where
-  pub size-stop : r ≡ End → 0 ≡ sizeAt s p
-  size-stop h = turn-none item-place 93 s _ 0 i (l .left) (unplaced s i er h)
-
-  module _ {a e : ℕ} (ea : r ≡ Item a e) {k b : ℕ} (ek : k ≡ skip s e) (eb : b ≡ peek s k) where
-    pub size-last : b ≡ 93 → n + 1 ≡ sizeAt s p
-    size-last h = turn-last item-place 93 s (λ (xs : List ℕ). n + length xs) 0 i (l .left) (placed s i er ea .0) ek eb h
-
-    pub size-wrong : (b ≡ 93 → ⊥) → (b ≡ 44 → ⊥) → 0 ≡ sizeAt s p
-    size-wrong g h = turn-wrong item-place 93 s (λ (xs : List ℕ). n + length xs) 0 i (l .left) (placed s i er ea .0) ek eb g h
-
-    pub size-more : (b ≡ 93 → ⊥) → b ≡ 44 → {w : ℕ} → w ≡ skip s (k + 1) → (i < w) × (i < length s) × Sizing s p (n + 1) w
-    size-more g h ew =
-        let t = turn-more item-place 93 s (λ (xs : List ℕ). n + length xs) 0 i (l .left) (placed s i er ea .0) ek eb g h (placed s i er ea .2) ew (λ (xs : List ℕ). n + 1 + length xs) (λ xs. omega arith) in
-        (t .0, t .1, record { few = omega (arith, l .few, t .0); inside = t .2; left = t .3 })
 
 -- m was counted, and what is left is at i
 pub record Counting (s : Text) (p : ℕ) (n : Text) (m : Member) (i : ℕ) : Type 0 where

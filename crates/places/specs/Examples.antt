@@ -7,13 +7,13 @@ use Rattle.text.specs.Strings.{hexOf, escapeOf, pairOf, quad, low, joined, pair
 use Rattle.text.specs.Numbers.{digits, minus, sign, int, frac, exp, rest, written, number}
 use Rattle.json.specs.Tree.{same}
 use Rattle.json.specs.Document.{as-text, as-number, as-word, as-array, as-object, scalar, in-front, after, items, many, colon, name, bound, named, member, either, value}
-use Rattle.places.specs.Places.{place, item-place, named-place, value-place, member-place, listed, itemsAt, membersAt, placesOf, counted, memberAt, sizeAt, itemOf, itemFrom, firstItem, nextItem, entryOf, entryFrom, firstMember, nextMember}
+use Rattle.places.specs.Places.{place, item-place, named-place, value-place, member-place, listed, itemsAt, membersAt, placesOf, counted, memberAt, itemOf, itemFrom, firstItem, nextItem, entryOf, entryFrom, firstMember, nextMember}
 use Rattle.places.specs.declared.Step.the-variants.{Item, End}
 use Rattle.places.specs.declared.Entry.the-variants.{Named, Last}
 
 -- what the examples compute with
 opened : Unit {0}
-unfolding next pick peek count run part word classOf whitespace skip digit hexOf escapeOf pairOf quad low joined paired escape tail second two three four classed character utf8 before onward characters string digits minus sign int frac exp rest written number same as-text as-number as-word as-array as-object scalar in-front after items many colon name bound named member either value place item-place named-place value-place member-place listed itemsAt membersAt placesOf counted memberAt sizeAt itemOf itemFrom firstItem nextItem entryOf entryFrom firstMember nextMember
+unfolding next pick peek count run part word classOf whitespace skip digit hexOf escapeOf pairOf quad low joined paired escape tail second two three four classed character utf8 before onward characters string digits minus sign int frac exp rest written number same as-text as-number as-word as-array as-object scalar in-front after items many colon name bound named member either value place item-place named-place value-place member-place listed itemsAt membersAt placesOf counted memberAt itemOf itemFrom firstItem nextItem entryOf entryFrom firstMember nextMember
 opened = tt
 
 -- in {"a":{"b":1},"b":2} there is one b, at 17: the one of the object inside is not counted
@@ -41,8 +41,8 @@ no-object : memberAt (123 ∷ 34 ∷ 97 ∷ 34 ∷ 58 ∷ 49 ∷ 44 ∷ 125 ∷ 
 unfolding opened
 no-object = refl
 
--- [1, [2,3]] has two items
-two-items : sizeAt (91 ∷ 49 ∷ 44 ∷ 32 ∷ 91 ∷ 50 ∷ 44 ∷ 51 ∷ 93 ∷ 93 ∷ []) 0 ≡ 2
+-- [1, [2,3]] has two items, at 1 and at 4
+two-items : itemsAt (91 ∷ 49 ∷ 44 ∷ 32 ∷ 91 ∷ 50 ∷ 44 ∷ 51 ∷ 93 ∷ 93 ∷ []) 0 ≡ 1 ∷ 4 ∷ []
 unfolding opened
 two-items = refl
 

@@ -1,7 +1,6 @@
 -- The members of the object at a position and the items of the array at a position, by their places. Assumes nothing.
 use mathlib.Core.List.{List, [], _∷_}
 use Prim.Native.Nat.{ℕ, _+_}
-use lib.ListN.{length}
 use lib.Dec.{eqb}
 use Rattle.text.specs.Reading.{Text, Out, done, bad, deep, Reader, next, pick, peek}
 use Rattle.text.specs.Class.{skip}
@@ -62,10 +61,6 @@ counted (p ∷ (q ∷ ps)) = record { count = 2; at = p }
 -- the members named n of the object at p
 unfoldable pub memberAt : Text → ℕ → Text → Member
 memberAt s p n = counted (placesOf n (membersAt s p))
-
--- how many items the array at p has
-unfoldable pub sizeAt : Text → ℕ → ℕ
-sizeAt s p = length (itemsAt s p)
 
 -- ---- one after the other
 

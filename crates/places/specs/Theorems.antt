@@ -6,18 +6,13 @@ use lib.ListN.{length}
 use Rattle.text.specs.Reading.{Text}
 use Rattle.json.specs.Tree.{Tree, arr, obj, Trees, Members, items-of, get}
 use Rattle.values.specs.Stands.{Stands}
-use Rattle.places.specs.Places.{itemsAt, membersAt, placesOf, memberAt, sizeAt, firstItem, firstMember}
+use Rattle.places.specs.Places.{itemsAt, membersAt, placesOf, memberAt, firstItem, firstMember}
 use Rattle.places.specs.Visits.{Hold, Belong, Visits, Passes}
-use Rattle.places.specs.laws.Standing.{array-of, object-of, get-holds, count-holds, first-holds, length-holds, visits-many, passes-many}
+use Rattle.places.specs.laws.Standing.{array-of, object-of, get-holds, count-holds, first-holds, visits-many, passes-many}
 
 -- at the places of the items of an array stand its items, one by one
 pub items-stand : {s : Text} {p : ℕ} {ts : Trees} → Stands s p (arr ts) → Hold s (itemsAt s p) (items-of ts)
 items-stand {s} {p} {ts} h = let a = array-of h in subst (λ (ps : List ℕ). Hold s ps (items-of ts)) (sym (a .are)) (a .hold)
-
--- so the size is how many they are
-pub size-stands : {s : Text} {p : ℕ} {ts : Trees} → Stands s p (arr ts) → sizeAt s p ≡ length (items-of ts)
-unfolding sizeAt
-size-stands h = length-holds (items-stand h)
 
 -- the names and places of the members of an object are those of its members, one by one
 pub members-stand : {s : Text} {p : ℕ} {ms : Members} → Stands s p (obj ms) → Belong s (membersAt s p) ms

@@ -2,3 +2,4 @@
 pub mod Tally
 pub mod Paired
 pub mod Standing
+pub mod Parts

@@ -1,7 +1,7 @@
 // The members of the object at a position of a JSON text and the items of the array at a position, by their places. Each question is
 // answered on every text, at every position.
 ghost use mathlib.Core.Path.{_≡_};
-ghost use Rattle.places.specs.Places.{memberAt, sizeAt, itemFrom, firstItem, nextItem, entryFrom, firstMember, nextMember};
+ghost use Rattle.places.specs.Places.{memberAt, itemFrom, firstItem, nextItem, entryFrom, firstMember, nextMember};
 ghost use Rattle.places.specs.laws.Tally.{noted};
 
 // How many members have a name, 0, 1 or 2 for more, and where the first one's value starts.
@@ -92,37 +92,6 @@ pub fn member_at(s: &[u8], at: usize, name: &[u8]) -> Member
                 i = text::blank(s, f + 1);
             }
             Entry::Last => return none,
-        }
-    }
-}
-
-// How many items the array at a position has, none where no array stands.
-pub fn size_at(s: &[u8], at: usize) -> usize
-    ensures { λ r. ⌜ r ≡ sizeAt (now (s .entry)) at ⌝ }
-{
-    if text::byte(s, at) != 91 {
-        return 0;
-    }
-    let mut i = text::blank(s, at + 1);
-    if text::byte(s, i) == 93 {
-        return 0;
-    }
-    let mut n: usize = 0;
-    loop {
-        match item_from(s, i) {
-            Step::Item(_, e) => {
-                n += 1;
-                let g = text::blank(s, e);
-                let b = text::byte(s, g);
-                if b == 93 {
-                    return n;
-                }
-                if b != 44 {
-                    return 0;
-                }
-                i = text::blank(s, g + 1);
-            }
-            Step::End => return 0,
         }
     }
 }

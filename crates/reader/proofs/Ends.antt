@@ -1,23 +1,22 @@
 -- The steps of judging 10 to 24 over the index, and what is left in it. Assumes nothing.
 use mathlib.Core.Path.{_≡_, sym, ap, _∙_}
-use mathlib.Core.Bool.{Bool, true, false}
+use mathlib.Core.Bool.{false}
 use mathlib.Core.List.{List, _++_}
 use Prim.Native.Nat.{ℕ}
-use native.Mathlib.Omega.{arith}
 use Rattle.text.specs.Reading.{Text}
 use Rattle.manifest.specs.Rows.{Manifest}
 use Rattle.manifest.specs.Rules.{first}
 use Rattle.manifest.specs.Manifest.{refusalOf}
 use Rattle.index.specs.Index.{indexOf, tooMany, manifestOf}
-use Rattle.named.specs.Named.{nameTable}
 use Rattle.reader.specs.Reader.{tableOf, namesOf}
+use Rattle.reader.specs.laws.Parts.{later-rules, first-rest, first-here, sizes-numbered, once-numbered, cited-numbered}
+use Rattle.reader.specs.laws.Passed.{Passed, index-judged}
+use Rattle.reader.specs.laws.Tables.{zeros, refused-zeros, accepted-index}
+use Rattle.named.specs.Named.{nameTable}
 use Rattle.sizes.specs.Sizes.{sizes-rules}
 use Rattle.once.specs.Once.{once-rules}
 use Rattle.cited.specs.Cited.{cited-rules}
 use Rattle.itself.specs.Itself.{itself-rules}
-use Rattle.reader.specs.laws.Parts.{later-rules, first-rest, first-here, sizes-numbered, once-numbered, cited-numbered}
-use Rattle.reader.specs.laws.Passed.{Passed, many-refused, index-judged}
-use Rattle.reader.specs.laws.Tables.{zeros, refused-zeros, accepted-index}
 
 -- ---- part after part
 
@@ -44,19 +43,16 @@ module _ (m : Manifest) {a : ℕ} (sizes : a ≡ first sizes-rules m) where
 
 -- ---- the index
 
-module _ {s : Text} {v : ℕ} (p : Passed s v) {b : Bool} (many : b ≡ tooMany s v) where
-  pub ends-many : b ≡ true → (10 ≡ refusalOf s) × (zeros ≡ tableOf s)
-  ends-many h = let r : refusalOf s ≡ 10 = many-refused p (sym many ∙ h) in (sym r, sym (refused-zeros s r (λ q. omega arith)))
+-- n is what is judged over the index of a manifest object that has passed
+module _ {s : Text} {v : ℕ} (p : Passed s v) (few : tooMany s v ≡ false) {ix : List ℕ} (fills : ix ≡ indexOf s v) {n : ℕ} (judged : n ≡ first later-rules (manifestOf s ix)) where
+  is-refusal : n ≡ refusalOf s
+  is-refusal = judged ∙ (ap (λ (l : List ℕ). first later-rules (manifestOf s l)) fills ∙ sym (index-judged p few))
 
-  module _ (h : b ≡ false) {ix : List ℕ} (fills : ix ≡ indexOf s v) {n : ℕ} (judged : n ≡ first later-rules (manifestOf s ix)) where
-    is-refusal : n ≡ refusalOf s
-    is-refusal = judged ∙ (ap (λ (l : List ℕ). first later-rules (manifestOf s l)) fills ∙ sym (index-judged p (sym many ∙ h)))
+  pub ends-later : (n ≡ 0 → ⊥) → (n ≡ refusalOf s) × (zeros ≡ tableOf s)
+  ends-later some = (is-refusal, sym (refused-zeros s (sym is-refusal) some))
 
-    pub ends-later : (n ≡ 0 → ⊥) → (n ≡ refusalOf s) × (zeros ≡ tableOf s)
-    ends-later some = (is-refusal, sym (refused-zeros s (sym is-refusal) some))
-
-    pub accepts : n ≡ 0 → (n ≡ refusalOf s) × (ix ≡ tableOf s)
-    accepts none = (is-refusal, fills ∙ sym (accepted-index s (sym is-refusal ∙ none) (p .its-root)))
+  pub accepts : n ≡ 0 → (n ≡ refusalOf s) × (ix ≡ tableOf s)
+  accepts none = (is-refusal, fills ∙ sym (accepted-index s (sym is-refusal ∙ none) (p .its-root)))
 
 -- ---- the names
 

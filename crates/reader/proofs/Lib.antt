@@ -1,3 +1,2 @@
 -- Laws that only the proofs of this crate's functions use.
-pub mod Steps
 pub mod Ends

@@ -7,15 +7,10 @@ use Rattle.text.specs.Reading.{Text, pick}
 use Rattle.manifest.specs.View.{one}
 use Rattle.manifest.specs.Meaning.{Meaning, meant}
 use Rattle.manifest.specs.Manifest.{refusalOf}
-use Rattle.outline.specs.declared.Standing.{Standing}
-use Rattle.outline.specs.declared.Standing.the-variants.{At, Refused}
 use Rattle.outline.specs.Outline.{rootAt}
-use Rattle.index.specs.Index.{indexOf, manifestOf}
+use Rattle.index.specs.Index.{manifestOf}
+use Rattle.survey.specs.Survey.{indexFrom}
 use Rattle.named.specs.Named.{nameTable}
-
-unfoldable pub indexFrom : Text → Standing → List ℕ
-indexFrom s (At v) = indexOf s v
-indexFrom s Refused = replicate 2470 0
 
 -- the index of an accepted manifest; zeros for a refused one, and for none
 unfoldable pub tableOf : Text → List ℕ

@@ -1,8 +1,7 @@
 -- Laws of the reading, for the theorems, the proofs, and those who build on them.
 pub mod Parts
 pub mod Early
-pub mod Sole
 pub mod Passed
 pub mod Tables
 pub mod Meant
-pub mod Outer
+pub mod Found

@@ -1,15 +1,16 @@
 -- A test of the names that an entry declares, by a loop over its items after its `machine`. Assumes nothing.
 use mathlib.Core.Path.{_≡_, refl, sym, ap, _∙_}
-use mathlib.Core.Bool.{Bool, true, false, _||_}
+use mathlib.Core.Bool.{Bool, true, false, _||_, or-false}
 use mathlib.Core.List.{List}
-use Prim.Native.Nat.{ℕ, _+_, _≤_, _<_}
+use Prim.Native.Nat.{ℕ, suc, _+_, _≤_, _<_}
 use native.Mathlib.Numerals.{add-one}
 use lib.Dec.{eqb}
 use Rattle.text.specs.Reading.{Text}
 use Rattle.manifest.specs.Rows.{Named, its-name, item-name, machineOf, its-items, the, holds, any, flat, declared}
 use Rattle.manifest.specs.laws.Lists.{any-append}
 use Rattle.index.specs.Index.{textCell, at, colOf, itemOf, itemsIn, itemBy, entryBy, entryAt}
-use Rattle.index.specs.laws.Entries.{from, any-past, any-found, any-on, itemAt, items-are}
+use Rattle.index.specs.laws.Entries.{from, from-here, any-past, any-found, any-on, itemAt, items-are}
+use Rattle.sizes.proofs.Judged.{or-moves}
 use Rattle.sizes.proofs.Nested.{inside, any-texts, any-inside}
 
 module _ (t : Text → Bool) (s : Text) (ix : List ℕ) (i : ℕ) where
@@ -58,3 +59,24 @@ module _ (t : Text → Bool) (s : Text) (ix : List ℕ) (i : ℕ) where
       pub declared-on : r ≡ false → any t (declared (entryAt s ix i)) ≡ fromItem (k + 1)
       unfolding fromItem
       declared-on g = inv ∙ any-on (itemAt s ix i) (itemsIn ix i) (λ v. holds t (item-name v)) k (rw en at h) (is-item ∙ g) ∙ ap (λ (j : ℕ). any (λ v. holds t (item-name v)) (from (itemAt s ix i) (itemsIn ix i) j)) (sym (add-one k))
+
+-- ---- a test of all names: whether it held of those before the items from number k on
+module _ (t : Text → Bool) (s : Text) (ix : List ℕ) (i : ℕ) where
+  pub names-start : {m q p : ℕ} {r : Bool} → m ≡ colOf ix i 1 → q ≡ colOf ix i 2 → p ≡ inside m q → r ≡ holds t (textCell s p) → any t (declared (entryAt s ix i)) ≡ (r || fromItem t s ix i 0)
+  names-start em eq ep er = declared-are t s ix i ∙ ap (λ (b : Bool). b || fromItem t s ix i 0) (sym (is-machine t s ix i em eq ep er))
+
+  item-turn : (k : ℕ) → k < itemsIn ix i → fromItem t s ix i k ≡ (holds t (textCell s (itemOf ix i k 1)) || fromItem t s ix i (suc k))
+  unfolding fromItem any itemBy
+  item-turn k h = ap (any (λ v. holds t (item-name v))) (from-here (itemAt s ix i) (itemsIn ix i) k h)
+
+  module _ {n k : ℕ} (e : Bool) (en : n ≡ itemsIn ix i) (inv : any t (declared (entryAt s ix i)) ≡ (e || fromItem t s ix i k)) where
+    pub names-done : n ≤ k → e ≡ any t (declared (entryAt s ix i))
+    unfolding fromItem
+    names-done h = sym (inv ∙ ap (λ (b : Bool). e || b) (any-past (itemAt s ix i) (itemsIn ix i) (λ v. holds t (item-name v)) k (rw en at h)) ∙ or-false e)
+
+    pub names-on : k < n → {p : ℕ} {r d : Bool} → p ≡ itemOf ix i k 1 → r ≡ holds t (textCell s p) → d ≡ (e || r) → any t (declared (entryAt s ix i)) ≡ (d || fromItem t s ix i (k + 1))
+    names-on h {p} {r} ep er ed =
+        inv ∙ ap (λ (b : Bool). e || b) (item-turn k (rw en at h))
+        ∙ (λ j. e || ((ap (λ (q : ℕ). holds t (textCell s q)) (sym ep) ∙ sym er) j || fromItem t s ix i (sym (add-one k) j)))
+        ∙ or-moves e r (fromItem t s ix i (k + 1))
+        ∙ ap (λ (b : Bool). b || fromItem t s ix i (k + 1)) (sym ed)

@@ -25,6 +25,10 @@ module _ (s : Text) {p n : ℕ} (low high : ℕ) (z : p ≡ 0 → ⊥) (e : n �
   pub too-long : low ≤ n → ltb high n ≡ holds (outside-of low high) (textCell s p)
   too-long h = ap (ltb high) e ∙ sym (ap (λ (b : Bool). b || ltb high (length (textAt s p))) (ap (λ (m : ℕ). ltb m low) (sym e) ∙ le-ltb n low h)) ∙ some-text (outside-of low high) s z
 
+-- a declared name is only too long; it may be empty
+pub name-long : (s : Text) {p n : ℕ} → (p ≡ 0 → ⊥) → n ≡ length (textAt s p) → ltb 64 n ≡ holds (outside-of 0 64) (textCell s p)
+name-long s z e = too-long s 0 64 z e (omega arith)
+
 -- ---- counts
 
 few : (b : Bool) (n : ℕ) → pick b 0 (min 32 n) ≤ 32

@@ -1,6 +1,6 @@
 // Refusals 10 to 13: sizes, clock names, machine with machines, empty names.
 ghost use mathlib.Core.Path.{_≡_};
-ghost use mathlib.Core.Bool.{_||_};
+ghost use mathlib.Core.Bool.{false, _||_};
 ghost use lib.Dec.{eqb};
 ghost use Rattle.text.specs.Reading.{pick};
 ghost use Rattle.manifest.specs.View.{one};
@@ -16,7 +16,7 @@ fn inside(outer: usize, p: usize) -> usize
     if outer == 0 { 0 } else { p }
 }
 
-// ---- 10: a size is broken
+// ---- 10: a size is broken, outside the declared names
 
 // There is a text at p, and it has fewer bytes than `low` or more than `high`.
 fn size_broken(s: &[u8], p: usize, low: usize, high: usize) -> bool
@@ -63,56 +63,118 @@ fn cited_size(s: &[u8], ix: &[usize; 2470], i: usize) -> bool
     size_broken(s, machine, 1, 64)
 }
 
-// A name that entry i declares. (An empty one is refused as 13.)
-fn declared_size(s: &[u8], ix: &[usize; 2470], i: usize) -> bool
-    ensures { λ r. ⌜ r ≡ any (outside-of 0 64) (declared (entryAt (now (s .entry)) (now (ix .entry)) i)) ⌝ }
+// ---- 10, and the empty names of 13: each length is asked once
+
+// What is found of sizes: one is broken; a declared name is empty. The second is told only where the first is false.
+struct Found {
+    broken: bool,
+    empty: bool,
+}
+
+fn either(a: bool, b: bool) -> bool
+    ensures { λ r. ⌜ r ≡ (a || b) ⌝ }
+{
+    if a { true } else { b }
+}
+
+// The text at p, if there is one, as a declared name.
+fn name_found(s: &[u8], p: usize) -> Found
+    ensures { λ r. ⌜ (r .broken ≡ holds (outside-of 0 64) (textCell (now (s .entry)) p)) × (r .empty ≡ holds is-empty (textCell (now (s .entry)) p)) ⌝ }
+{
+    if p == 0 {
+        return Found {
+            broken: false,
+            empty: false,
+        };
+    }
+    let n = index::length_at(s, p);
+    let broken = 64 < n;
+    let empty = n == 0;
+    Found { broken, empty }
+}
+
+// The names that entry i declares.
+fn names_found(s: &[u8], ix: &[usize; 2470], i: usize) -> Found
+    ensures { λ r. ⌜ (r .broken ≡ any (outside-of 0 64) (declared (entryAt (now (s .entry)) (now (ix .entry)) i))) × (r .broken ≡ false → r .empty ≡ any is-empty (declared (entryAt (now (s .entry)) (now (ix .entry)) i))) ⌝ }
 {
     let machine = index::col(ix, i, 1);
     let name = inside(machine, index::col(ix, i, 2));
-    if size_broken(s, name, 0, 64) {
-        return true;
+    let first = name_found(s, name);
+    if first.broken {
+        return Found {
+            broken: true,
+            empty: false,
+        };
     }
+    let mut empty = first.empty;
     let n = index::items(ix, i);
     let mut k: usize = 0;
     while k < n {
         let p = index::item(ix, i, k, 1);
-        if size_broken(s, p, 0, 64) {
-            return true;
+        let found = name_found(s, p);
+        if found.broken {
+            return Found {
+                broken: true,
+                empty: false,
+            };
         }
+        empty = either(empty, found.empty);
         k += 1;
     }
-    false
+    Found {
+        broken: false,
+        empty,
+    }
 }
 
-// In entry i; an index holds no more items than may be.
-fn refusal_10_within(s: &[u8], ix: &[usize; 2470], i: usize) -> bool
-    ensures { λ r. ⌜ r ≡ refusal-10-size .within (manifestOf (now (s .entry)) (now (ix .entry))) i (one (entryAt (now (s .entry)) (now (ix .entry)) i)) ⌝ }
+// Entry i; an index holds no more items than may be.
+fn entry_found(s: &[u8], ix: &[usize; 2470], i: usize) -> Found
+    ensures { λ r. ⌜ (r .broken ≡ refusal-10-size .within (manifestOf (now (s .entry)) (now (ix .entry))) i (one (entryAt (now (s .entry)) (now (ix .entry)) i))) × (r .broken ≡ false → r .empty ≡ refusal-13-empty-machine-name .within (manifestOf (now (s .entry)) (now (ix .entry))) i (one (entryAt (now (s .entry)) (now (ix .entry)) i))) ⌝ }
 {
     let path = index::col(ix, i, 0);
     if size_broken(s, path, 1, 255) {
-        return true;
+        return Found {
+            broken: true,
+            empty: false,
+        };
     }
     if cited_size(s, ix, i) {
-        return true;
+        return Found {
+            broken: true,
+            empty: false,
+        };
     }
-    declared_size(s, ix, i)
+    names_found(s, ix, i)
 }
 
-fn refusal_10_size(s: &[u8], ix: &[usize; 2470]) -> bool
-    ensures { λ r. ⌜ r ≡ applies refusal-10-size (manifestOf (now (s .entry)) (now (ix .entry))) ⌝ }
+// The whole manifest: 10, and 13 where 10 is not.
+fn sizes_found(s: &[u8], ix: &[usize; 2470]) -> Found
+    ensures { λ r. ⌜ (r .broken ≡ applies refusal-10-size (manifestOf (now (s .entry)) (now (ix .entry)))) × (r .broken ≡ false → r .empty ≡ applies refusal-13-empty-machine-name (manifestOf (now (s .entry)) (now (ix .entry)))) ⌝ }
 {
     if refusal_10_outside(s, ix) {
-        return true;
+        return Found {
+            broken: true,
+            empty: false,
+        };
     }
     let n = index::entries(ix);
+    let mut empty = false;
     let mut i: usize = 0;
     while i < n {
-        if refusal_10_within(s, ix, i) {
-            return true;
+        let found = entry_found(s, ix, i);
+        if found.broken {
+            return Found {
+                broken: true,
+                empty: false,
+            };
         }
+        empty = either(empty, found.empty);
         i += 1;
     }
-    false
+    Found {
+        broken: false,
+        empty,
+    }
 }
 
 // ---- 11: unknown clock name
@@ -195,59 +257,12 @@ fn refusal_12_machine_with_machines(s: &[u8], ix: &[usize; 2470]) -> bool
     false
 }
 
-// ---- 13: empty machine name, in `machine` or `machines`
-
-// There is a text at p, and it is empty.
-fn empty_name(s: &[u8], p: usize) -> bool
-    ensures { λ r. ⌜ r ≡ holds is-empty (textCell (now (s .entry)) p) ⌝ }
-{
-    if p == 0 {
-        return false;
-    }
-    let n = index::length_at(s, p);
-    n == 0
-}
-
-// In entry i.
-fn refusal_13_within(s: &[u8], ix: &[usize; 2470], i: usize) -> bool
-    ensures { λ r. ⌜ r ≡ refusal-13-empty-machine-name .within (manifestOf (now (s .entry)) (now (ix .entry))) i (one (entryAt (now (s .entry)) (now (ix .entry)) i)) ⌝ }
-{
-    let machine = index::col(ix, i, 1);
-    let name = inside(machine, index::col(ix, i, 2));
-    if empty_name(s, name) {
-        return true;
-    }
-    let n = index::items(ix, i);
-    let mut k: usize = 0;
-    while k < n {
-        let p = index::item(ix, i, k, 1);
-        if empty_name(s, p) {
-            return true;
-        }
-        k += 1;
-    }
-    false
-}
-
-fn refusal_13_empty_machine_name(s: &[u8], ix: &[usize; 2470]) -> bool
-    ensures { λ r. ⌜ r ≡ applies refusal-13-empty-machine-name (manifestOf (now (s .entry)) (now (ix .entry))) ⌝ }
-{
-    let n = index::entries(ix);
-    let mut i: usize = 0;
-    while i < n {
-        if refusal_13_within(s, ix, i) {
-            return true;
-        }
-        i += 1;
-    }
-    false
-}
-
 // The number of the first of these rules that applies to the manifest; 0 if none does.
 pub fn refusal(s: &[u8], ix: &[usize; 2470]) -> u8
     ensures { λ r. ⌜ r ≡ first sizes-rules (manifestOf (now (s .entry)) (now (ix .entry))) ⌝ }
 {
-    if refusal_10_size(s, ix) {
+    let found = sizes_found(s, ix);
+    if found.broken {
         return 10;
     }
     if refusal_11_unknown_clock_name(s, ix) {
@@ -256,8 +271,5 @@ pub fn refusal(s: &[u8], ix: &[usize; 2470]) -> u8
     if refusal_12_machine_with_machines(s, ix) {
         return 12;
     }
-    if refusal_13_empty_machine_name(s, ix) {
-        return 13;
-    }
-    0
+    if found.empty { 13 } else { 0 }
 }

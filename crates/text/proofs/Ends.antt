@@ -12,12 +12,12 @@ use Rattle.text.specs.declared.Scan.the-variants.{Done, Bad}
 use Rattle.text.specs.declared.Code.{Code}
 use Rattle.text.specs.declared.Code.the-variants.{Of, No}
 use Rattle.text.specs.laws.Readers.{at, Past, past-strict, past-deep}
-use Rattle.text.specs.laws.Strings.{character-past, character-bounded, characters-close, characters-more, characters-bad, characters-turns, string-none, string-some}
+use Rattle.text.specs.laws.Strings.{character-past, character-bounded, characters-close, characters-more, characters-bad, characters-over, characters-turns, string-none, string-some}
 use Rattle.text.specs.laws.Plain.{own, pastOwn, own-step, own-stop, own-past, own-ge, own-le}
 use Rattle.text.proofs.Quick.{plain-at}
 
 -- where the characters from i on end
-pub ends : Text → ℕ → Scan
+unfoldable pub ends : Text → ℕ → Scan
 ends s i = scan (characters (suc (length s)) s i)
 
 before-scan : (o : Out Text) (v : ℕ) → scan (next o (before v)) ≡ scan o
@@ -96,9 +96,14 @@ own-turns (suc n) s i h = go (decLt i (length s)) (own-turns n s (i + 1) (omega 
 pub goes-own : (s : Text) (i : ℕ) {k : ℕ} → k ≡ pastOwn s i → ends s i ≡ ends s k
 goes-own s i e = own-turns (length s) s i (omega arith) ∙ ap (ends s) (sym e)
 
--- and the character after them, from i to j
-pub ahead : (s : Text) (i : ℕ) {k : ℕ} → i ≤ length s → k ≡ pastOwn s i → {r : Code} {v j : ℕ} → r ≡ codeOf (character s k) → r ≡ Of v j → (i < j) × (j ≤ length s)
-ahead s i {k} h e f g =
-    let a : i ≤ pastOwn s i = own-ge s i in
-    let b : pastOwn s i ≤ length s = own-le s i h in
-    (omega (arith, goes-past s k f g), goes-within s k (omega arith) f g)
+-- a character, and the run of them after it, from i to k
+pub ahead : (s : Text) (i : ℕ) {k : ℕ} → i ≤ length s → {r : Code} {v j : ℕ} → r ≡ codeOf (character s i) → r ≡ Of v j → k ≡ pastOwn s j → (i < k) × (k ≤ length s)
+ahead s i {k} h {j = j} f g e =
+    let a : j ≤ pastOwn s j = own-ge s j in
+    let b : pastOwn s j ≤ length s = own-le s j (goes-within s i h f g) in
+    (omega (arith, goes-past s i f g), omega arith)
+
+-- no quote stands past the end
+pub unclosed : (s : Text) (i : ℕ) → length s ≤ i → ends s i ≡ Bad i
+unfolding scan ends
+unclosed s i h = ap scan (characters-over (suc (length s)) s i h)

@@ -1,5 +1,6 @@
 -- Laws that the functions' proofs use.
 pub mod Table
+pub mod Told
 pub mod Quick
 pub mod Coded
 pub mod Ends

@@ -7,7 +7,7 @@ use native.Mathlib.Nat.{add-zero, le-of-suc-le-suc, not-suc-le-zero}
 use native.Mathlib.Omega.{arith}
 use lib.ListN.{length, getD}
 use lib.Dec.{leb, ltb, eqb, T, eqb→eq}
-use borrow.Author.Tests.{leb-true, leb-false, ltb-true, ltb-false, le-leb, lt-leb, le-ltb, lt-ltb, ne-eqb}
+use borrow.Author.Tests.{leb-true, leb-false, ltb-true, ltb-false, le-leb, lt-leb, le-ltb, lt-ltb, eq-eqb, ne-eqb}
 use Rattle.text.specs.Reading.{Text, done, pick, peek}
 use Rattle.text.specs.Class.{classOf, whitespace, digit}
 use Rattle.text.specs.Strings.{character}
@@ -47,14 +47,27 @@ module _ (b : ℕ) where
   unfolding whitespace
   no-white h = sym (white-bytes b ∙ rw (ne-eqb b 9 (λ (e : b ≡ 9). omega arith), ne-eqb b 10 (λ (e : b ≡ 10). omega arith), ne-eqb b 13 (λ (e : b ≡ 13). omega arith), ne-eqb b 32 (λ (e : b ≡ 32). omega arith)))
 
-  -- no digit is below 48 or above 57
+  -- the first, the second, and one of the last two
+  pub white-tab : b ≡ 9 → true ≡ whitespace b
+  unfolding whitespace
+  white-tab h = sym (white-bytes b ∙ rw (eq-eqb b 9 h))
+
+  pub white-line : (b ≡ 9 → ⊥) → b ≡ 10 → true ≡ whitespace b
+  unfolding whitespace
+  white-line n h = sym (white-bytes b ∙ rw (ne-eqb b 9 n, eq-eqb b 10 h))
+
+  pub white-last : (b ≡ 9 → ⊥) → (b ≡ 10 → ⊥) → (eqb b 13 || eqb b 32) ≡ whitespace b
+  unfolding whitespace
+  white-last n m = sym (white-bytes b ∙ rw (ne-eqb b 9 n, ne-eqb b 10 m))
+
+  -- no digit is below 48, and from there on those up to 57 are
   pub below-digits : b < 48 → false ≡ digit b
   unfolding digit
   below-digits h = sym (digit-bytes b ∙ rw (lt-leb 48 b h))
 
-  pub above-digits : 57 < b → false ≡ digit b
+  pub to-nine : 48 ≤ b → leb b 57 ≡ digit b
   unfolding digit
-  above-digits h = sym (digit-bytes b ∙ rw (le-leb 48 b (omega arith), lt-leb b 57 h))
+  to-nine h = sym (digit-bytes b ∙ rw (le-leb 48 b h))
 
 between : (k : ℕ) → (leb 4 k && ltb k 18) ≡ true → (4 ≤ k) × (k < 18)
 between k = go (leb 4 k) refl

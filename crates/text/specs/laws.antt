@@ -3,6 +3,7 @@ pub mod Peek
 pub mod Class
 pub mod Bytes
 pub mod ClassTable
+pub mod Marks
 pub mod Plain
 pub mod Readers
 pub mod Runs

@@ -1,14 +1,17 @@
 // The bytes of a JSON text: classes, strings, numbers, literals, whitespace.
 ghost use mathlib.Core.Path.{_≡_};
-ghost use Prim.Native.Nat.{_+_, _≤_, _<_, _^_};
+ghost use Prim.Native.Nat.{suc, _+_, _*_, _≤_, _<_, _^_};
 ghost use mathlib.Core.Bool.{true, _||_};
 ghost use lib.Dec.{eqb};
 ghost use lib.ListN.{length};
+ghost use lib.Count.{trailingZeros};
 ghost use Rattle.text.specs.Reading.{pick, peek, run, word, scan};
 ghost use Rattle.text.specs.Class.{classOf, skip, whitespace, digit as digitOf};
-ghost use Rattle.text.specs.Strings.{hexOf, escapeOf, pairOf, quad as quadOf, low as lowOf, paired as pairedOf, escape as escapeAt, second as secondOf, two as twoOf, three as threeOf, four as fourOf, character as characterOf, codeOf, string as stringOf};
+ghost use Rattle.text.specs.Strings.{hexOf, escapeOf, pairOf, quad as quadOf, low as lowOf, paired as pairedOf, escape as escapeAt, second as secondOf, two as twoOf, three as threeOf, four as fourOf, character as characterOf, codeOf, characters, string as stringOf};
 ghost use Rattle.text.specs.Numbers.{digits as digitsOf, minus as minusOf, sign as signOf, int as intOf, frac as fracOf, exp as expOf, rest as restOf, number as numberOf};
-ghost use Rattle.text.specs.laws.Plain.{own, pastOwn};
+ghost use Rattle.text.specs.laws.ClassTable.{Classes};
+ghost use Rattle.text.specs.laws.Marks.{marks};
+ghost use Rattle.text.specs.laws.Plain.{own, ownAt, pastOwn, Near};
 
 // Where a reading ends; or the first position after which no well-formed text is possible; or the byte that opens one level too many.
 pub enum Scan {
@@ -41,42 +44,6 @@ const CLASS: [u8; 256] = *b"\x00\x00\x00\x00\x00\x00\x00\x00\x00\x01\x01\x00\x00
     \x14\x14\x14\x14\x14\x14\x14\x14\x14\x14\x14\x14\x14\x14\x14\x14\
     \x15\x15\x15\x15\x15\x16\x16\x16\x16\x16\x16\x16\x16\x16\x16\x16";
 
-// The value of each hexadecimal digit; 16 for a byte that is none.
-const HEX: [u8; 256] = *b"\x10\x10\x10\x10\x10\x10\x10\x10\x10\x10\x10\x10\x10\x10\x10\x10\
-    \x10\x10\x10\x10\x10\x10\x10\x10\x10\x10\x10\x10\x10\x10\x10\x10\
-    \x10\x10\x10\x10\x10\x10\x10\x10\x10\x10\x10\x10\x10\x10\x10\x10\
-    \x00\x01\x02\x03\x04\x05\x06\x07\x08\x09\x10\x10\x10\x10\x10\x10\
-    \x10\x0a\x0b\x0c\x0d\x0e\x0f\x10\x10\x10\x10\x10\x10\x10\x10\x10\
-    \x10\x10\x10\x10\x10\x10\x10\x10\x10\x10\x10\x10\x10\x10\x10\x10\
-    \x10\x0a\x0b\x0c\x0d\x0e\x0f\x10\x10\x10\x10\x10\x10\x10\x10\x10\
-    \x10\x10\x10\x10\x10\x10\x10\x10\x10\x10\x10\x10\x10\x10\x10\x10\
-    \x10\x10\x10\x10\x10\x10\x10\x10\x10\x10\x10\x10\x10\x10\x10\x10\
-    \x10\x10\x10\x10\x10\x10\x10\x10\x10\x10\x10\x10\x10\x10\x10\x10\
-    \x10\x10\x10\x10\x10\x10\x10\x10\x10\x10\x10\x10\x10\x10\x10\x10\
-    \x10\x10\x10\x10\x10\x10\x10\x10\x10\x10\x10\x10\x10\x10\x10\x10\
-    \x10\x10\x10\x10\x10\x10\x10\x10\x10\x10\x10\x10\x10\x10\x10\x10\
-    \x10\x10\x10\x10\x10\x10\x10\x10\x10\x10\x10\x10\x10\x10\x10\x10\
-    \x10\x10\x10\x10\x10\x10\x10\x10\x10\x10\x10\x10\x10\x10\x10\x10\
-    \x10\x10\x10\x10\x10\x10\x10\x10\x10\x10\x10\x10\x10\x10\x10\x10";
-
-// What a backslash and each byte stand for; 0 for a byte that ends no escape.
-const ESCAPE: [u8; 256] = *b"\x00\x00\x00\x00\x00\x00\x00\x00\x00\x00\x00\x00\x00\x00\x00\x00\
-    \x00\x00\x00\x00\x00\x00\x00\x00\x00\x00\x00\x00\x00\x00\x00\x00\
-    \x00\x00\x22\x00\x00\x00\x00\x00\x00\x00\x00\x00\x00\x00\x00\x2f\
-    \x00\x00\x00\x00\x00\x00\x00\x00\x00\x00\x00\x00\x00\x00\x00\x00\
-    \x00\x00\x00\x00\x00\x00\x00\x00\x00\x00\x00\x00\x00\x00\x00\x00\
-    \x00\x00\x00\x00\x00\x00\x00\x00\x00\x00\x00\x00\x5c\x00\x00\x00\
-    \x00\x00\x08\x00\x00\x00\x0c\x00\x00\x00\x00\x00\x00\x00\x0a\x00\
-    \x00\x00\x0d\x00\x09\x00\x00\x00\x00\x00\x00\x00\x00\x00\x00\x00\
-    \x00\x00\x00\x00\x00\x00\x00\x00\x00\x00\x00\x00\x00\x00\x00\x00\
-    \x00\x00\x00\x00\x00\x00\x00\x00\x00\x00\x00\x00\x00\x00\x00\x00\
-    \x00\x00\x00\x00\x00\x00\x00\x00\x00\x00\x00\x00\x00\x00\x00\x00\
-    \x00\x00\x00\x00\x00\x00\x00\x00\x00\x00\x00\x00\x00\x00\x00\x00\
-    \x00\x00\x00\x00\x00\x00\x00\x00\x00\x00\x00\x00\x00\x00\x00\x00\
-    \x00\x00\x00\x00\x00\x00\x00\x00\x00\x00\x00\x00\x00\x00\x00\x00\
-    \x00\x00\x00\x00\x00\x00\x00\x00\x00\x00\x00\x00\x00\x00\x00\x00\
-    \x00\x00\x00\x00\x00\x00\x00\x00\x00\x00\x00\x00\x00\x00\x00\x00";
-
 // A byte as an index.
 fn index(b: u8) -> usize
     ensures { λ r. ⌜ r ≡ b ⌝ }
@@ -98,6 +65,14 @@ pub fn class(b: u8) -> u8
     CLASS[index(b)]
 }
 
+// The class of a byte by a table of them. A constant is laid out on the stack for each use, so whoever asks for many classes lends one.
+fn class_in(b: u8, classes: &[u8]) -> u8
+    requires { ⌜ Classes (now classes) ⌝ }
+    ensures { λ r. ⌜ r ≡ classOf b ⌝ }
+{
+    classes[index(b)]
+}
+
 // The byte at a position, and 256 past the end: so that no caller has a case for the end.
 pub fn byte(s: &[u8], at: usize) -> u32
     ensures { λ r. ⌜ r ≡ peek (now (s .entry)) at ⌝ }
@@ -105,15 +80,20 @@ pub fn byte(s: &[u8], at: usize) -> u32
     if at < s.len() { widen(s[at]) } else { 256 }
 }
 
-// Whether a byte is whitespace. Most bytes are above the space, so that is asked first.
+// Whether a byte is whitespace. By comparing alone, which costs less than the class; most bytes are above the space, so that is asked first.
 fn white(b: u8) -> bool
     ensures { λ r. ⌜ r ≡ whitespace b ⌝ }
 {
     if 32 < b {
         return false;
     }
-    let k = class(b);
-    k == 4 || k == 1
+    if b == 9 {
+        return true;
+    }
+    if b == 10 {
+        return true;
+    }
+    b == 13 || b == 32
 }
 
 // Past the whitespace at a position.
@@ -130,14 +110,49 @@ pub fn blank(s: &[u8], at: usize) -> usize
     i
 }
 
+// The value of a hexadecimal digit; 16 for what is none. By comparing, since a table is laid out on the stack for each use.
+fn hex_of(b: u32) -> u32
+    ensures { λ r. ⌜ r ≡ hexOf b ⌝ }
+{
+    if b < 48 {
+        return 16;
+    }
+    if b < 58 {
+        return b - 48;
+    }
+    if b < 65 {
+        return 16;
+    }
+    if b < 71 {
+        return b - 55;
+    }
+    if b < 97 {
+        return 16;
+    }
+    if b < 103 { b - 87 } else { 16 }
+}
+
 // The value of the hexadecimal digit at a position; 16 for a byte that is none, and for the end.
 fn hex_at(s: &[u8], at: usize) -> u32
     ensures { λ r. ⌜ r ≡ hexOf (peek (now (s .entry)) at) ⌝ }
 {
-    if at < s.len() {
-        widen(HEX[index(s[at])])
-    } else {
-        16
+    hex_of(byte(s, at))
+}
+
+// What a backslash and a byte stand for; 0 for a byte that ends no escape.
+fn escape_of(b: u32) -> u32
+    ensures { λ r. ⌜ r ≡ escapeOf b ⌝ }
+{
+    match b {
+        34 => 34,
+        47 => 47,
+        92 => 92,
+        98 => 8,
+        102 => 12,
+        110 => 10,
+        114 => 13,
+        116 => 9,
+        _ => 0,
     }
 }
 
@@ -145,11 +160,7 @@ fn hex_at(s: &[u8], at: usize) -> u32
 fn escape_of_at(s: &[u8], at: usize) -> u32
     ensures { λ r. ⌜ r ≡ escapeOf (peek (now (s .entry)) at) ⌝ }
 {
-    if at < s.len() {
-        widen(ESCAPE[index(s[at])])
-    } else {
-        0
-    }
+    escape_of(byte(s, at))
 }
 
 // Two hexadecimal digits, after the number v.
@@ -327,7 +338,7 @@ fn four(s: &[u8], at: usize) -> Code
 }
 
 // Whether a byte is a character by itself, as those of the classes 4 to 17 are. By comparing alone, which costs less than the class.
-fn plain(b: u8) -> bool
+pub fn plain(b: u8) -> bool
     ensures { λ r. ⌜ r ≡ own b ⌝ }
 {
     if b < 32 {
@@ -388,22 +399,117 @@ fn past_singly(s: &[u8], at: usize, end: usize) -> usize
     i
 }
 
-// Past the plain bytes at a position. The first 12 one by one: most strings are shorter, and a block that fails costs time.
-fn past_plain(s: &[u8], at: usize) -> usize
-    requires { ⌜ at ≤ length (now s) ⌝ }
-    ensures { λ r. ⌜ r ≡ pastOwn (now (s .entry)) at ⌝ }
+// The place of the lowest binary digit that is set.
+pub fn lowest(m: u16) -> usize
+    ensures { λ r. ⌜ r ≡ trailingZeros 16 m ⌝ }
 {
-    if s.len() - at < 12 {
-        return past_singly(s, at, s.len());
-    }
-    let near = past_singly(s, at, at + 12);
-    if near < at + 12 {
-        return near;
-    }
-    past_singly(s, past_blocks(s, near), s.len())
+    u16::trailing_zeros(m) as usize
 }
 
-// A character of a string: its code point.
+// A weight for a byte that is not plain, and nothing for one that is.
+fn weight(b: u8, w: u16) -> u16
+    ensures { λ r. ⌜ r ≡ w * pick (own b) 0 1 ⌝ }
+{
+    if plain(b) { 0 } else { w }
+}
+
+// The 8 bytes at a position as binary digits, the first the lowest: 1 for a byte that is not plain, and a 1 above them; three times that. No way out between them,
+// and weights that are no powers of 2, since so the compiler sums the 8 together.
+fn plain_marks(s: &[u8], at: usize) -> u16
+    requires { ⌜ at + 8 ≤ length (now s) ⌝ }
+    ensures { λ r. ⌜ r ≡ 3 * marks (ownAt (now (s .entry)) at) 0 8 ⌝ }
+{
+    let mut m: u16 = 0;
+    let mut w: u16 = 3;
+    for i in 0..8 {
+        m += weight(s[at + i], w);
+        w *= 2;
+    }
+    m + w
+}
+
+// How many of the 8 bytes at a position are plain, up to the first that is not.
+fn plain_near(s: &[u8], at: usize) -> usize
+    requires { ⌜ at + 8 ≤ length (now s) ⌝ }
+    ensures { λ r. ⌜ Near (now (s .entry)) at 8 r ⌝ }
+{
+    lowest(plain_marks(s, at))
+}
+
+// Past the plain bytes at a position. The first 16 by eights: most strings are shorter, and a block that fails costs time.
+pub fn past_plain(s: &[u8], at: usize) -> usize
+    ensures { λ r. ⌜ r ≡ pastOwn (now (s .entry)) at ⌝ }
+{
+    if s.len() <= at {
+        return at;
+    }
+    if s.len() - at < 16 {
+        return past_singly(s, at, s.len());
+    }
+    let near = plain_near(s, at);
+    if near < 8 {
+        return at + near;
+    }
+    let next = plain_near(s, at + 8);
+    if next < 8 {
+        return at + 8 + next;
+    }
+    past_singly(s, past_blocks(s, at + 16), s.len())
+}
+
+// Past the plain bytes at a position where few or none are looked for, as between two escapes: the first 16 one by one.
+fn past_few(s: &[u8], at: usize) -> usize
+    ensures { λ r. ⌜ r ≡ pastOwn (now (s .entry)) at ⌝ }
+{
+    if s.len() <= at {
+        return at;
+    }
+    if !plain(s[at]) {
+        return at;
+    }
+    if s.len() - at < 16 {
+        return past_singly(s, at, s.len());
+    }
+    let i = past_singly(s, at, at + 16);
+    if i < at + 16 {
+        return i;
+    }
+    past_plain(s, i)
+}
+
+// The same as `escape`. Most escapes are a backslash and a letter, so these are tried first.
+fn escaped(s: &[u8], at: usize) -> Code
+    requires { ⌜ at < 2 ^ 63 ⌝ }
+    ensures { λ r. ⌜ r ≡ codeOf (escapeAt (now (s .entry)) at) ⌝ }
+{
+    let short = escape_of_at(s, at + 1);
+    if short == 0 {
+        return escape(s, at);
+    }
+    Code::Of(short, at + 2)
+}
+
+// A character of a string by the class of its first byte. `closed` alone calls it, so that the compiler lays it into its loop.
+fn of_class(s: &[u8], at: usize, class: u8) -> Code
+    requires { ⌜ (at < length (now s)) × (class ≡ classOf (peek (now s) at)) ⌝ }
+    ensures { λ r. ⌜ r ≡ codeOf (characterOf (now (s .entry)) at) ⌝ }
+{
+    match class {
+        3 => escaped(s, at),
+        19 => two(s, at),
+        20 => three(s, at),
+        21 => four(s, at),
+        _ => {
+            if plain(s[at]) {
+                Code::Of(byte(s, at), at + 1)
+            } else {
+                Code::No(at)
+            }
+        }
+    }
+}
+
+// A character of a string: its code point. A plain byte and an escape are told at once, without the table.
 pub fn character(s: &[u8], at: usize) -> Code
     ensures { λ r. ⌜ r ≡ codeOf (characterOf (now (s .entry)) at) ⌝ }
 {
@@ -413,8 +519,10 @@ pub fn character(s: &[u8], at: usize) -> Code
     if plain(s[at]) {
         return Code::Of(byte(s, at), at + 1);
     }
+    if s[at] == 92 {
+        return escape(s, at);
+    }
     match class(s[at]) {
-        3 => escape(s, at),
         19 => two(s, at),
         20 => three(s, at),
         21 => four(s, at),
@@ -422,38 +530,55 @@ pub fn character(s: &[u8], at: usize) -> Code
     }
 }
 
-// A string, from its opening quote on.
+// The characters at a position, to the closing quote. The table of the classes is laid out once for all of them.
+fn closed(s: &[u8], at: usize) -> Scan
+    requires { ⌜ at ≤ length (now s) ⌝ }
+    ensures { λ r. ⌜ r ≡ scan (characters (suc (length (now (s .entry)))) (now (s .entry)) at) ⌝ }
+{
+    let classes = CLASS;
+    let mut i = at;
+    while i < s.len() {
+        if s[i] == 34 {
+            return Scan::Done(i + 1);
+        }
+        match of_class(s, i, class_in(s[i], &classes)) {
+            Code::Of(_, j) => i = past_few(s, j),
+            Code::No(p) => return Scan::Bad(p),
+        }
+    }
+    Scan::Bad(i)
+}
+
+// A string, from its opening quote on. One that is empty, and one of plain bytes, is told at once; one that begins with an escape has none to pass. (With two calls of
+// `closed` the compiler leaves it a function of its own, and this one is short enough to be laid into its callers.)
 pub fn string(s: &[u8], at: usize) -> Scan
     ensures { λ r. ⌜ r ≡ scan (stringOf (now (s .entry)) at) ⌝ }
 {
     if byte(s, at) != 34 {
         return Scan::Bad(at);
     }
-    let mut i = at + 1;
-    loop {
-        i = past_plain(s, i);
-        if byte(s, i) == 34 {
-            return Scan::Done(i + 1);
-        }
-        match character(s, i) {
-            Code::Of(_, j) => i = j,
-            Code::No(p) => return Scan::Bad(p),
-        }
+    let first = at + 1;
+    if byte(s, first) == 34 {
+        return Scan::Done(first + 1);
     }
+    if byte(s, first) == 92 {
+        return closed(s, first);
+    }
+    let end = past_plain(s, first);
+    if byte(s, end) == 34 {
+        return Scan::Done(end + 1);
+    }
+    closed(s, end)
 }
 
-// Whether a byte is a digit. Outside 48 to 57 comparing alone tells, which costs less than the class.
+// Whether a byte is a digit. By comparing alone, which costs less than the class.
 fn digit(b: u8) -> bool
     ensures { λ r. ⌜ r ≡ digitOf b ⌝ }
 {
     if b < 48 {
         return false;
     }
-    if 57 < b {
-        return false;
-    }
-    let k = class(b);
-    k == 5 || k == 6
+    b <= 57
 }
 
 // Past the digits at a position.

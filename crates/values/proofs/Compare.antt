@@ -2,7 +2,7 @@
 use mathlib.Core.Path.{_≡_, refl, sym, ap, _∙_}
 use mathlib.Core.Bool.{Bool, true, false, _&&_, and-assoc, and-false}
 use mathlib.Core.List.{[], _∷_, _++_}
-use Prim.Native.Nat.{ℕ, _+_, _-_, _*_, _/_, _%_, _≤_, _<_}
+use Prim.Native.Nat.{ℕ, zero, suc, _+_, _-_, _*_, _/_, _%_, _≤_, _<_}
 use native.Mathlib.Omega.{arith}
 use native.Mathlib.Nat.{add-zero}
 use native.Mathlib.Numerals.{add-one}
@@ -15,13 +15,15 @@ use Rattle.text.specs.Reading.{Text, Out, done, bad, deep, next, pick, peek}
 use Rattle.text.specs.Strings.{character, utf8, before, string}
 use Rattle.json.specs.Tree.{same}
 use Rattle.values.specs.Strings.{lengthIn, lengthAt, isText, sameAs, bothText, sameTexts}
-use Rattle.values.specs.laws.Compared.{startsFrom}
-use Rattle.values.specs.laws.Ordinary.{Ordinary, reads-itself, width-one, starts-itself}
+use Rattle.values.specs.laws.Compared.{startsFrom, rest}
+use Rattle.values.specs.laws.Ordinary.{Ordinary, reads-itself, width-one, starts-itself, plain-itself}
+use Rattle.values.specs.laws.Alike.{Twice, Alike, alike-less, alike-last}
+use Rattle.text.specs.laws.Plain.{own, pastOwn, own-step, own-stop, own-past, own-ge}
 use Rattle.text.specs.laws.Readers.{pick-true, pick-false}
 use Rattle.text.specs.laws.Strings.{string-none}
 use Rattle.values.specs.laws.Outs.{Stops, stops-is, stops-bad, stops-deep}
 use Rattle.values.specs.laws.Standing.{text-stops, left-stops, right-stops, same-equal}
-use Rattle.values.proofs.Rest.{rest, rest-close, rest-char, rest-stops, string-is}
+use Rattle.values.proofs.Rest.{rest-close, rest-char, rest-stops, string-is}
 
 -- ---- the length
 
@@ -67,6 +69,33 @@ module _ (s : Text) (n i : ℕ) {r : ℕ} (inv : lengthFrom n (rest s i) ≡ r) 
 
   pub length-more : (peek s i ≡ 34 → ⊥) → {v j w : ℕ} → character s i ≡ done v j → w ≡ length (utf8 v) → lengthFrom (n + w) (rest s j) ≡ r
   length-more h {v} {j} {w} e f = ap (λ (k : ℕ). lengthFrom (n + k) (rest s j)) f ∙ sym (length-next n v (rest s j)) ∙ ap (lengthFrom n) (sym (rest-char s i h e)) ∙ inv
+
+length-stay : (s : Text) (n i : ℕ) {k r : ℕ} → lengthFrom n (rest s i) ≡ r → k ≡ i → lengthFrom (n + (k - i)) (rest s k) ≡ r
+length-stay s n i inv e = let q : n + (i - i) ≡ n = omega arith in rw (e, q) inv
+
+-- plain bytes in a row, each of which counts one: m turns are enough
+length-turns : (m : ℕ) (s : Text) (n i : ℕ) {r : ℕ} → length s ≤ m + i → lengthFrom n (rest s i) ≡ r → lengthFrom (n + (pastOwn s i - i)) (rest s (pastOwn s i)) ≡ r
+length-turns zero s n i h inv = length-stay s n i inv (own-past s i (omega arith))
+length-turns (suc m) s n i {r} h inv = go (decLt i (length s)) (λ f. length-turns m s (n + 1) (i + 1) (omega arith) f)
+  where
+    here : (lengthFrom (n + 1) (rest s (i + 1)) ≡ r → lengthFrom (n + 1 + (pastOwn s (i + 1) - (i + 1))) (rest s (pastOwn s (i + 1))) ≡ r) → (l : i < length s) (t : Bool) → t ≡ own (getD s i 0) → lengthFrom (n + (pastOwn s i - i)) (rest s (pastOwn s i)) ≡ r
+    here f l true e =
+        let p = plain-itself s i l (sym e) in
+        let a : i + 1 ≤ pastOwn s (i + 1) = own-ge s (i + 1) in
+        let q : n + 1 + (pastOwn s (i + 1) - (i + 1)) ≡ n + (pastOwn s (i + 1) - i) = omega arith in
+        let b : pastOwn s i ≡ pastOwn s (i + 1) = own-step s i l e refl in
+        rw (b, ← q) (f (length-more s n i inv (p .unquoted) (p .reads) (width-one _ (p .ordinary))))
+    here f l false e = length-stay s n i inv (own-stop s i l e refl)
+
+    go : Dec (i < length s) → (lengthFrom (n + 1) (rest s (i + 1)) ≡ r → lengthFrom (n + 1 + (pastOwn s (i + 1) - (i + 1))) (rest s (pastOwn s (i + 1))) ≡ r) → lengthFrom (n + (pastOwn s i - i)) (rest s (pastOwn s i)) ≡ r
+    go (yes l) f = here f l _ refl
+    go (no l) f = length-stay s n i inv (own-past s i (omega arith))
+
+pub plain-ge : (s : Text) (i : ℕ) {k : ℕ} → k ≡ pastOwn s i → i ≤ k
+plain-ge s i e = omega (arith, own-ge s i)
+
+pub length-plain : (s : Text) (n i : ℕ) {k r : ℕ} → lengthFrom n (rest s i) ≡ r → k ≡ pastOwn s i → lengthFrom (n + (k - i)) (rest s k) ≡ r
+length-plain s n i inv e = rw e (length-turns (length s) s n i (omega arith) inv)
 
 -- ---- the comparison with bytes
 
@@ -327,3 +356,22 @@ module _ (s : Text) (i k : ℕ) {r : Bool} (inv : bothText (rest s i) (rest s k)
 
     pub both-more : v ≡ w → bothText (rest s j) (rest s l) ≡ r
     both-more e = sym (pick-true _ _ (eq-eqb w v (sym e))) ∙ both-step
+
+-- plain bytes that are the same, in a row
+both-turns : (s : Text) (i k r : ℕ) {x : Bool} → bothText (rest s i) (rest s k) ≡ x → Alike s i k r → bothText (rest s (i + r)) (rest s (k + r)) ≡ x
+both-turns s i k zero inv a = rw (add-zero i, add-zero k) inv
+both-turns s i k (suc r) {x} inv a = go (both-turns s i k r inv (alike-less a)) (alike-last a)
+  where
+    go : bothText (rest s (i + r)) (rest s (k + r)) ≡ x → Twice s (i + r) (k + r) → bothText (rest s (i + suc r)) (rest s (k + suc r)) ≡ x
+    go f t =
+        let p = plain-itself s (i + r) (t .left) (t .plain) in
+        let q = plain-itself s (k + r) (t .right) (t .plain-too) in
+        let e : i + r + 1 ≡ i + suc r = omega arith in
+        let g : k + r + 1 ≡ k + suc r = omega arith in
+        rw (← e, ← g) (both-more s (i + r) (k + r) f (p .unquoted) (q .unquoted) (p .reads) (q .reads) (t .same))
+
+pub both-alike : (s : Text) (i k : ℕ) {r : ℕ} {x : Bool} → bothText (rest s (i + 1)) (rest s (k + 1)) ≡ x → Alike s (i + 1) (k + 1) r → bothText (rest s (i + (r + 1))) (rest s (k + (r + 1))) ≡ x
+both-alike s i k {r} inv a =
+    let e : i + 1 + r ≡ i + (r + 1) = omega arith in
+    let g : k + 1 + r ≡ k + (r + 1) = omega arith in
+    rw (← e, ← g) (both-turns s (i + 1) (k + 1) r inv a)

@@ -15,6 +15,7 @@ use Rattle.text.specs.declared.Code.{Code}
 use Rattle.text.specs.declared.Code.the-variants.{Of, No}
 use Rattle.text.specs.laws.Readers.{bad-done, next-was, pick-true}
 use Rattle.text.specs.laws.Strings.{character-end, characters-turns, characters-close, characters-open, string-some}
+use Rattle.values.specs.laws.Compared.{rest}
 use Rattle.values.specs.laws.Outs.{Gives, gives-bad, gives-done, gives-pick, gives-next, Stops, stops-next, stops-is}
 
 -- ---- how many bytes a code point has
@@ -196,9 +197,6 @@ character-in s {i} {v} {j} e = (go (decLt i (length s)), character-takes s i .ho
     go (no n) = absurd (bad-done (sym (character-end s i (omega arith)) ∙ e))
 
 -- ---- what is left of a string
-
-pub rest : Text → ℕ → Out Text
-rest s i = characters (suc (length s)) s i
 
 module _ (s : Text) (i : ℕ) where
   pub rest-close : peek s i ≡ 34 → rest s i ≡ done [] (i + 1)

@@ -2,5 +2,6 @@
 pub mod Outs
 pub mod Compared
 pub mod Ordinary
+pub mod Alike
 pub mod Shapes
 pub mod Standing

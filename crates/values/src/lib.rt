@@ -9,10 +9,12 @@ ghost use Rattle.text.specs.Reading.{pick, peek, part};
 ghost use Rattle.text.specs.Class.{digit};
 ghost use Rattle.text.specs.Strings.{utf8};
 ghost use Rattle.values.specs.Stands.{kindBy, kindAt};
-ghost use Rattle.values.specs.Strings.{lengthAt, sameAs, sameTexts};
+ghost use Rattle.values.specs.Strings.{lengthAt, sameAs, bothText, sameTexts};
 ghost use Rattle.values.specs.Integer.{whole, broken as brokenOf, decimal, ranged, integer, integerAt};
-ghost use Rattle.values.specs.laws.Compared.{startsFrom};
+ghost use Rattle.text.specs.laws.Marks.{marks as marksOf};
+ghost use Rattle.values.specs.laws.Compared.{startsFrom, rest};
 ghost use Rattle.values.specs.laws.Ordinary.{Ordinary};
+ghost use Rattle.values.specs.laws.Alike.{twice, twiceAt, Alike};
 
 // What kind of value begins at a position.
 pub enum Kind {
@@ -47,7 +49,10 @@ fn begins_number(b: u8) -> bool
     if b == 45 {
         return true;
     }
-    either(text::class(b), 5, 6)
+    if b < 48 {
+        return false;
+    }
+    b <= 57
 }
 
 // The kind of value that a byte begins.
@@ -96,7 +101,7 @@ fn width(v: u32) -> usize
     if v < 65536 { 3 } else { 4 }
 }
 
-// The length of the string at a position, unescaped; 0 where no string stands.
+// The length of the string at a position, unescaped; 0 where no string stands. Plain bytes are counted in a row.
 pub fn length_at(s: &[u8], at: usize) -> usize
     ensures { λ r. ⌜ r ≡ lengthAt (now (s .entry)) at ⌝ }
 {
@@ -106,10 +111,12 @@ pub fn length_at(s: &[u8], at: usize) -> usize
     let mut i = at + 1;
     let mut n: usize = 0;
     loop {
-        if text::byte(s, i) == 34 {
+        let k = text::past_plain(s, i);
+        n += k - i;
+        if text::byte(s, k) == 34 {
             return n;
         }
-        match text::character(s, i) {
+        match text::character(s, k) {
             text::Code::Of(v, j) => {
                 n += width(v);
                 i = j;
@@ -212,18 +219,50 @@ fn both_ordinary(b: u32, d: u32) -> bool
     if ordinary(b) { ordinary(d) } else { false }
 }
 
-// The strings at two positions, unescaped, are one text; false where either is none. Equal texts have equal characters.
-pub fn same_texts(s: &[u8], p: usize, q: usize) -> bool
-    ensures { λ r. ⌜ r ≡ sameTexts (now (s .entry)) p q ⌝ }
+// A weight for two bytes that differ or are not plain, and nothing for a plain byte twice.
+fn apart(b: u8, d: u8, w: u16) -> u16
+    ensures { λ r. ⌜ r ≡ w * pick (twice b d) 0 1 ⌝ }
 {
-    if text::byte(s, p) != 34 {
-        return false;
+    if b != d {
+        return w;
     }
-    if text::byte(s, q) != 34 {
-        return false;
+    if text::plain(b) { 0 } else { w }
+}
+
+// The 8 bytes at two positions as binary digits, the first the lowest: 1 where they differ or are not plain, and a 1 above them; three times that, as the plain bytes are told.
+fn pair_marks(s: &[u8], i: usize, k: usize) -> u16
+    requires { ⌜ (i + 8 ≤ length (now s)) × (k + 8 ≤ length (now s)) ⌝ }
+    ensures { λ r. ⌜ r ≡ 3 * marksOf (twiceAt (now (s .entry)) i k) 0 8 ⌝ }
+{
+    let mut m: u16 = 0;
+    let mut w: u16 = 3;
+    for j in 0..8 {
+        m += apart(s[i + j], s[k + j], w);
+        w *= 2;
     }
-    let mut i = p + 1;
-    let mut k = q + 1;
+    m + w
+}
+
+// How many plain bytes at two positions are the same, of 8 at most; near the end of the text none are counted.
+fn alike(s: &[u8], i: usize, k: usize) -> usize
+    requires { ⌜ (i ≤ length (now s)) × (k ≤ length (now s)) ⌝ }
+    ensures { λ r. ⌜ Alike (now (s .entry)) i k r ⌝ }
+{
+    if s.len() - i < 8 {
+        return 0;
+    }
+    if s.len() - k < 8 {
+        return 0;
+    }
+    text::lowest(pair_marks(s, i, k))
+}
+
+// What is left of two strings from two positions on is one text; false where either goes wrong. Equal texts have equal characters; plain ones are compared in a row.
+fn same_rest(s: &[u8], p: usize, q: usize) -> bool
+    ensures { λ r. ⌜ r ≡ bothText (rest (now (s .entry)) p) (rest (now (s .entry)) q) ⌝ }
+{
+    let mut i = p;
+    let mut k = q;
     loop {
         let b = text::byte(s, i);
         let d = text::byte(s, k);
@@ -237,8 +276,9 @@ pub fn same_texts(s: &[u8], p: usize, q: usize) -> bool
             if b != d {
                 return false;
             }
-            i += 1;
-            k += 1;
+            let n = alike(s, i + 1, k + 1) + 1;
+            i += n;
+            k += n;
             continue;
         }
         match text::character(s, i) {
@@ -255,6 +295,19 @@ pub fn same_texts(s: &[u8], p: usize, q: usize) -> bool
             text::Code::No(_) => return false,
         }
     }
+}
+
+// The strings at two positions, unescaped, are one text; false where either is none.
+pub fn same_texts(s: &[u8], p: usize, q: usize) -> bool
+    ensures { λ r. ⌜ r ≡ sameTexts (now (s .entry)) p q ⌝ }
+{
+    if text::byte(s, p) != 34 {
+        return false;
+    }
+    if text::byte(s, q) != 34 {
+        return false;
+    }
+    same_rest(s, p + 1, q + 1)
 }
 
 // A point or an e: what stands in a number with a fraction or an exponent.

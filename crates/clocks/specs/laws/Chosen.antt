@@ -27,7 +27,7 @@ use Rattle.whole.specs.laws.Lists.{length-xs}
 use Rattle.graphs.specs.Links.{Link, linksOf, listOf}
 use Rattle.graphs.specs.laws.Links.{links-most, linkAt, seen, seen-forwards, seen-backwards, Sight, sight, before, before-mono, stands, found}
 use Rattle.graphs.specs.laws.Links.Sight.{forwards, backwards, unseen}
-use Rattle.clocks.specs.laws.Order.{side, lives, rank, Lists, rankAt, livesAt, Ordered, Sorted, Small, Grouped, Range, pairOf, pairAt, rank-same, side-even, side-odd, lives-even, lives-odd, side-small, side-below, not-falling}
+use Rattle.clocks.specs.laws.Order.{side, lives, rank, Lists, rankAt, livesAt, Ordered, Sorted, Small, Grouped, Range, rank-same, side-even, side-odd, lives-even, lives-odd, side-small, side-below, not-falling}
 
 -- the reading of a directed correspondence on the clock that it leads from; with the two lists changed, on the other
 unfoldable pub readAt : List ℤ → List ℤ → ℕ → ℤ
@@ -246,23 +246,23 @@ module _ (fs : List ℕ) (xs : List ℤ) (gs : List ℕ) (ys : List ℤ) (c d : 
     -- ---- from lo to hi stand the numbers that lead from c to d
     module _ {lo hi : ℕ} (R : Range fs gs os n c d lo hi) (ds : d < 65536) where
       arc-at : (i : ℕ) → lo ≤ i → i < hi → Arc (getD os i 0)
-      unfolding livesAt pairAt pairOf
+      unfolding livesAt
       arc-at i g h =
           let m : i < n = omega (arith, R .upto) in
-          let s : side gs fs (getD os i 0) < 65536 = side-small gs fs (getD os i 0) 65536 (T .small-b) (T .small-a) in
-          record { inside = T .ordered .inside i m; alive = T .ordered .alive i m; from = omega (arith, R .inside i g h); to = omega (arith, R .inside i g h) }
+          let s = R .inside i g h in
+          record { inside = T .ordered .inside i m; alive = T .ordered .alive i m; from = s .from; to = s .to }
 
       key-at : (i : ℕ) → lo ≤ i → i < hi → getD ks i 0 ≡ excess (readAt xs ys (getD os i 0))
       key-at i g h = T .sorted .keys i (omega (arith, R .upto)) ∙ key-is (getD os i 0) (arc-at i g h) .0
 
       -- each arc has its key there
       stands-at : (e : ℕ) → Arc e → (i : ℕ) × (lo ≤ i) × (i < hi) × (getD ks i 0 ≡ excess (readAt xs ys e))
-      unfolding livesAt rankAt pairAt
+      unfolding livesAt rankAt
       stands-at e r =
           let (i, h, q) = T .ordered .covers e (r .inside) (r .alive) in
           let s : Small (side fs gs (getD os i 0)) (side gs fs (getD os i 0)) (side (T .p) (T .q) (getD os i 0)) = number-small T i h in
           let u = rank-same s (record { to = ds; key = key-small e r }) (q ∙ rank-is e r) in
-          let w = R .all i h (rw (u .0, u .1) refl) in
+          let w = R .all i h (record { from = u .0; to = u .1 }) in
           (i, w .0, w .1, T .sorted .keys i h ∙ u .2)
 
       pub range-rising : Rising ks lo hi
@@ -375,9 +375,15 @@ tables-reach {fs} {xs} {gs} {ys} T i h =
     (omega (arith, e, m .0), omega (arith, e, m .1), omega (arith, e, m .2), omega (arith, e, m .3))
 
 pub tables-grouped : {fs : List ℕ} {xs : List ℤ} {gs : List ℕ} {ys : List ℤ} {os ks : List ℕ} {n : ℕ} → Tables fs xs gs ys os ks n → Grouped fs gs os n
-unfolding rankAt rank pairAt pairOf
-tables-grouped T = record {
-  steady = λ i j h k. omega (arith, not-falling (T .ordered) i j h k, number-small T i (omega arith) .key, number-small T j k .key);
+unfolding rankAt rank
+tables-grouped {fs} {gs = gs} {os = os} T = record {
+  between = λ c d i j k h g l a b.
+      let s = number-small T i (omega arith) in
+      let t = number-small T j (omega arith) in
+      let u = number-small T k l in
+      let p = not-falling (T .ordered) i j h (omega arith) in
+      let q = not-falling (T .ordered) j k g l in
+      record { from = omega (arith, s .to, s .key, t .to, t .key, u .to, u .key, a .from, a .to, b .from, b .to, p, q); to = omega (arith, s .to, s .key, t .to, t .key, u .to, u .key, a .from, a .to, b .from, b .to, p, q) };
   reach = λ i h. let m = tables-reach T i h in (m .0, m .2);
   room = T .room;
 }

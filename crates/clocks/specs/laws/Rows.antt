@@ -402,9 +402,6 @@ spacious-same s r = record { on = s .on; reads = s .reads; times = omega (arith,
 pub spacious-marked : {cs : List ℕ} {rs : List ℤ} {n : ℕ} {ts : List ℤ} {ks₀ ks ss : List ℕ} → Spacious n cs rs ts ks₀ ss → Marked ks₀ ks n → Spacious n cs rs ts ks ss
 spacious-marked s m = record { on = s .on; reads = s .reads; times = s .times; kinds = omega (arith, s .kinds, m .same); steps = s .steps }
 
-pub zeros-again : {xs ys : List ℕ} (k : ℕ) → ys ≡ replicate (length xs) 0 → xs ≡ replicate k 0 → ys ≡ replicate k 0
-zeros-again k e z = e ∙ ap (λ (n : ℕ). replicate n 0) (ap length z ∙ length-replicate k 0)
-
 -- ---- where something doesn't fit, and where all fits
 module _ (w : World) (cs : List ℕ) (rs : List ℤ) (room : Room) where
   pub filled-not : fits (length (w .links)) (length (answersOf w cs rs)) room ≡ false
@@ -454,7 +451,7 @@ module _ (w : World) (cs : List ℕ) (rs : List ℤ) (n nt nk ns nm : ℕ) where
   abbrev room : Room
   room = record { times = nt; kinds = nk; steps = ns; matrix = nm }
 
-  module _ {ts : List ℤ} {ks ss ms : List ℕ} (T : ts ≡ replicate nt (pos 0)) (K : ks ≡ replicate nk 0) (S : ss ≡ replicate ns 0) (M : ms ≡ replicate nm 0) (e : n ≡ length (answersOf w cs rs)) (f : fits (length (w .links)) n room ≡ true) where
+  module _ {ts : List ℤ} {ks ss : List ℕ} (T : ts ≡ replicate nt (pos 0)) (K : ks ≡ replicate nk 0) (S : ss ≡ replicate ns 0) (e : n ≡ length (answersOf w cs rs)) (f : fits (length (w .links)) n room ≡ true) where
     lt : length ts ≡ nt
     lt = ap length T ∙ length-replicate nt (pos 0)
 
@@ -464,17 +461,14 @@ module _ (w : World) (cs : List ℕ) (rs : List ℤ) (n nt nk ns nm : ℕ) where
     ls : length ss ≡ ns
     ls = ap length S ∙ length-replicate ns 0
 
-    lm : length ms ≡ nm
-    lm = ap length M ∙ length-replicate nm 0
-
     fit : Fitting (length (w .links)) n room
     fit = fitting (length (w .links)) n room f
 
     pub room-links : length (w .links) ≤ most
     room-links = fit .links
 
-    pub room-matrix : length ms ≡ clocks * clocks
-    room-matrix = lm ∙ fit .matrix
+    pub room-matrix : nm ≡ clocks * clocks
+    room-matrix = fit .matrix
 
     pub room-space : Smaller (length cs) (length rs) n → Spacious n cs rs ts ks ss
     room-space s = record { on = s .left; reads = s .right; times = omega (arith, fit .times, lt); kinds = omega (arith, fit .kinds, lk); steps = omega (arith, fit .steps, ls) }
@@ -482,10 +476,7 @@ module _ (w : World) (cs : List ℕ) (rs : List ℤ) (n nt nk ns nm : ℕ) where
     pub room-blank : Blank ts ks ss
     room-blank = record { times = λ j. zeros-at (pos 0) nt ts j T; kinds = λ j. zeros-at 0 nk ks j K; steps = λ j. zeros-at 0 ns ss j S }
 
-    pub room-zero : ms ≡ replicate (length ms) 0
-    room-zero = M ∙ ap (λ (k : ℕ). replicate k 0) (sym lm)
-
-    pub all-filled : {ts′ : List ℤ} {ks′ ss′ ms′ : List ℕ} → Answered w cs rs n ts ks ss ts′ ks′ ss′ → ms′ ≡ replicate (length ms) 0
+    pub all-filled : {ts′ : List ℤ} {ks′ ss′ ms′ : List ℕ} → Answered w cs rs n ts ks ss ts′ ks′ ss′ → ms′ ≡ replicate nm 0
         → (true ≡ filled w cs rs room .done) × (ts′ ≡ filled w cs rs room .times) × (ks′ ≡ filled w cs rs room .kinds) × (ss′ ≡ filled w cs rs room .steps) × (ms′ ≡ filled w cs rs room .matrix)
     all-filled a m =
         rw (filled-all w cs rs room (ap (λ (k : ℕ). fits (length (w .links)) k room) (sym e) ∙ f)) (
@@ -493,7 +484,7 @@ module _ (w : World) (cs : List ℕ) (rs : List ℤ) (n nt nk ns nm : ℕ) where
           times-list e a (omega (arith, fit .times, lt)) ∙ ap (λ (k : ℕ). padded (pos 0) k (map timeOf (answersOf w cs rs))) lt,
           kinds-list e a (omega (arith, fit .kinds, lk)) ∙ ap (λ (k : ℕ). padded 0 k (map kindOf (answersOf w cs rs))) lk,
           steps-list e a (omega (arith, fit .steps, ls)) ∙ ap (λ (k : ℕ). padded 0 k (map stepsOf (answersOf w cs rs))) ls,
-          m ∙ ap (λ (k : ℕ). replicate k 0) lm,
+          m,
         )
 
   pub none-filled : {ts : List ℤ} {ks ss ms : List ℕ} → ts ≡ replicate nt (pos 0) → ks ≡ replicate nk 0 → ss ≡ replicate ns 0 → ms ≡ replicate nm 0 → n ≡ length (answersOf w cs rs) → fits (length (w .links)) n room ≡ false

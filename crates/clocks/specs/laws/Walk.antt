@@ -77,7 +77,7 @@ pub record Sound (l : Lookup) (ns : List ℕ) : Type 0 where
 abbrev pub Agrees : (ℕ → ℤ → Sum) → List Link → List ℕ → Type 0
 Agrees f ls ns = (c : ℕ) (t : ℤ) → c < clocks → SFits w64 t → f c t ≡ carriedOver (listOf ls c (getD ns c 0)) t
 
-module _ {fs : List ℕ} {xs : List ℤ} {gs : List ℕ} {ys : List ℤ} {os ks : List ℕ} {n : ℕ} {ns lows highs : List ℕ} (T : Tables fs xs gs ys os ks n) (R : Ranges fs gs os n ns lows highs clocks) (N : (c : ℕ) → c < clocks → getD ns c 0 < clocks) where
+module _ {fs : List ℕ} {xs : List ℤ} {gs : List ℕ} {ys : List ℤ} {os ks : List ℕ} {n : ℕ} {ns lows highs : List ℕ} (T : Tables fs xs gs ys os ks n) (R : Ranges fs gs os n ns lows highs) (N : (c : ℕ) → c < clocks → getD ns c 0 < clocks) where
   pub tables-sound : Sound (record { x = xs; y = ys; keys = ks; order = os; low = lows; high = highs }) ns
   tables-sound = record { low = R .low; high = R .high; search = λ c h. tables-search T (R .ranges c h) (omega (arith, N c h)); nexts = N }
 

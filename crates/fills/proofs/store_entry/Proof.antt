@@ -1,63 +1,47 @@
--- `fills::store_entry` meets its contract: the rows of the entry's items are put in, and then its own row before them, which is its block.
--- Assumes nothing.
-use mathlib.Core.Path.{_∙_}
+-- `fills::store_entry` meets its contract. The invariant: the row and the items are those of what was met, and with the members that are left that gives
+-- the columns. At the end the row is put before the items, which is the entry's block. Assumes nothing.
+use mathlib.Core.Path.{sym}
 use native.Mathlib.Omega.{arith}
-use borrow.Author.Needs.{needs}
-use Rattle.index.specs.laws.Put.{put-length}
-use Rattle.fills.specs.laws.Blank.{blank-on}
-use Rattle.fills.proofs.Made.{machine-standing, machines-standing, clocks-standing, entry-put}
+use Rattle.fills.proofs.Passed.{ahead, left-end, left-falls, left-inside, left-there}
+use Rattle.fills.proofs.Turns.{EntryLeft, entry-begin, entry-end, entry-fresh, entry-long, entry-on, entry-sized}
 use Rattle.fills.proofs.store_entry.Statement.{statement}
 use Rattle.fills.proofs.store_entry.Tie as tie
 
-row-of-requires : tie.Need-row-of-requires
-row-of-requires c κs = search needs
+abbrev Inv-loop : tie.InvT-loop
+Inv-loop s p base ix₀ row₀ at₀ ix row at = EntryLeft s p base at ix₀ row ix
 
-array-read-store-items : tie.Need-array-read-store-items
-array-read-store-items c = search needs
+abbrev μ-loop : tie.MeasureT-loop
+μ-loop s p base ix₀ row₀ at₀ ix row at = ahead s at
 
-add-store-items : tie.Need-add-store-items
-add-store-items c = search needs
+first-in-requires : tie.Need-first-in-requires Inv-loop μ-loop
+first-in-requires c κs = (omega arith, omega arith)
 
-store-items-requires : tie.Need-store-items-requires
-store-items-requires c κs = (c .before .before .before .pre .0, omega (arith, c .before .before .before .pre .1), machines-standing _ _ (c .before .row-of .ensures), blank-on 13 (c .before .before .before .pre .3))
+loop-holds : tie.Need-loop-holds Inv-loop μ-loop
+loop-holds c = entry-begin (c .before .before .pre .2) (c .first-in .ensures) (c .before .before .pre .0) (c .before .before .pre .1) (c .before .before .pre .3)
 
-array-read-entry-row : tie.Need-array-read-entry-row
-array-read-entry-row c = search needs
+value-of-requires : tie.Need-value-of-requires Inv-loop μ-loop
+value-of-requires c κs = tt
 
-array-read-entry-row-2 : tie.Need-array-read-entry-row-2
-array-read-entry-row-2 c = search needs
+entry-met-requires : tie.Need-entry-met-requires Inv-loop μ-loop
+entry-met-requires c κs = (left-there (c .before .before .before .before .before .loop .inv .left) (c .before .before .before .if1 .taken) (c .before .before .value-of .ensures), entry-sized (c .before .before .before .before .before .loop .inv), entry-long (c .before .before .before .before .before .loop .inv) (c .before .before .before .before .before .before .before .before .pre .0), c .before .before .before .before .before .before .before .before .pre .1, entry-fresh (c .before .before .before .before .before .loop .inv) (c .before .before .before .before .before .before .before .before .pre .3))
 
-array-read-entry-row-3 : tie.Need-array-read-entry-row-3
-array-read-entry-row-3 c = search needs
+after-requires : tie.Need-after-requires Inv-loop μ-loop
+after-requires c κs = left-inside (c .before .before .before .before .before .before .loop .inv .left) (c .before .before .before .before .if1 .taken) (c .before .before .before .value-of .ensures) (c .entry-met .ensures .0)
 
-array-read-entry-row-4 : tie.Need-array-read-entry-row-4
-array-read-entry-row-4 c = search needs
+loop-less : tie.Need-loop-less Inv-loop μ-loop
+loop-less c = left-falls (c .before .before .before .before .before .before .before .loop .inv .left) (c .before .before .before .before .before .if1 .taken) (c .before .before .before .before .value-of .ensures) (c .before .entry-met .ensures .0) (c .after .ensures)
 
-entry-row-requires : tie.Need-entry-row-requires
-entry-row-requires c κs = (machine-standing _ _ (c .before .before .row-of .ensures), clocks-standing _ _ (c .before .before .row-of .ensures))
+loop-again : tie.Need-loop-again Inv-loop μ-loop
+loop-again c = entry-on (c .before .before .before .before .before .before .before .loop .inv) (c .before .before .before .before .before .if1 .taken) (c .before .before .before .before .value-of .ensures) (c .before .entry-met .ensures .0) (c .after .ensures) (c .before .entry-met .ensures .1)
 
-slice-aggregate-store : tie.Need-slice-aggregate-store
-slice-aggregate-store c = search needs
+slice-aggregate-store : tie.Need-slice-aggregate-store Inv-loop μ-loop
+slice-aggregate-store c = sym (entry-sized (c .before .before .before .before .loop .inv))
 
-store-requires : tie.Need-store-requires
-store-requires c κs = (put-length (c .before .before .before .store-items .ensures .1) ∙ c .before .before .before .before .before .before .before .pre .0, omega (arith, c .before .before .before .before .before .before .before .pre .1))
+store-requires : tie.Need-store-requires Inv-loop μ-loop
+store-requires c κs = (entry-long (c .before .before .before .before .loop .inv) (c .before .before .before .before .before .before .before .pre .0), omega (arith, entry-sized (c .before .before .before .before .loop .inv), c .before .before .before .before .before .before .before .pre .1))
 
-returns : tie.Need-returns
-returns c = entry-put _ _ (c .before .before .before .before .before .before .row-of .ensures) (c .before .before .before .before .store-items .ensures .0) (c .before .before .before .entry-row .ensures) _ (c .before .before .before .before .store-items .ensures .1) (c .store .ensures)
+returns : tie.Need-returns Inv-loop μ-loop
+returns c = (left-end (c .before .before .before .before .before .loop .inv .left) (c .before .before .before .if1 .left) .0, entry-end (c .before .before .before .before .before .loop .inv) (c .before .before .before .if1 .left) (c .store .ensures))
 
 pub store-entry-spec : {M : Type 1} → statement M
-store-entry-spec =
-    tie.close
-    (tie.spec
-    row-of-requires
-    array-read-store-items
-    add-store-items
-    store-items-requires
-    array-read-entry-row
-    array-read-entry-row-2
-    array-read-entry-row-3
-    array-read-entry-row-4
-    entry-row-requires
-    slice-aggregate-store
-    store-requires
-    returns)
+store-entry-spec = tie.close (tie.spec Inv-loop μ-loop first-in-requires loop-holds value-of-requires entry-met-requires after-requires loop-less loop-again slice-aggregate-store store-requires returns)

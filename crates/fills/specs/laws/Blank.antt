@@ -36,7 +36,7 @@ pub blank-put : {old new w : List ℕ} {base : ℕ} → Put old base w new → B
 blank-put {w = w} p h = record { rest = h .rest - length w; is = put-after p ∙ past h (length w) }
 
 -- zeros are there already
-put-zeros : {l : List ℕ} {b : ℕ} (n : ℕ) → Blank l b → b + n ≤ length l → Put l b (replicate n 0) l
+pub put-zeros : {l : List ℕ} {b : ℕ} (n : ℕ) → Blank l b → b + n ≤ length l → Put l b (replicate n 0) l
 put-zeros {l} {b} n h f =
     let m : length (drop b l) ≡ h .rest = ap length (h .is) ∙ length-replicate {A = ℕ} (h .rest) 0 in
     let c : n + (h .rest - n) ≡ h .rest = omega (arith, length-drop b l) in

@@ -32,7 +32,7 @@ slice-write-matrix-2 : tie.Need-slice-write-matrix-2
 slice-write-matrix-2 c = omega (arith, c .before .before .pre, length-set (c .before .before .args .matrix .now) (c .before .before .args .c * clocks + c .before .before .args .d) 1)
 
 same-length : tie.Need-same-length
-same-length c = join-both (c .before .before .args .matrix .now) (c .before .before .args .c) (c .before .before .args .d) (c .before .before .pre) (c .before .if1 .left) (c .if2 .left) .room
+same-length c = simp length-set
 
 returns-3 : tie.Need-returns-3
 returns-3 c = join-both _ _ _ (c .before .before .pre) (c .before .if1 .left) (c .if2 .left)

@@ -1,17 +1,16 @@
 -- A matrix to which pairs are added, in both directions: how two additions are one, and what holds them all in the end. Assumes nothing.
-use mathlib.Core.Path.{_≡_, refl, sym, _∙_}
-use mathlib.Core.Bool.{Bool, true, false, _&&_, _||_}
+use mathlib.Core.Path.{_≡_, refl, sym, ap, _∙_}
+use mathlib.Core.Bool.{Bool, true, false, cond, _&&_, _||_}
 use mathlib.Core.List.{List}
 use mathlib.Core.Logic.{_⊎_, inl, inr}
-use Prim.Native.Nat.{ℕ, _*_, _<_}
+use Prim.Native.Nat.{ℕ, _<_}
 use native.Mathlib.Omega.{arith}
 use lib.Dec.{eqb}
 use lib.ListN.{length}
 use borrow.Author.Tests.{eq-eqb, eqb-true}
 use Rattle.numbers.specs.Numbers.{clocks}
-use Rattle.paths.specs.Matrix.{pairOf}
 use Rattle.paths.specs.laws.Least.{and-left, and-right, not-so}
-use Rattle.graphs.specs.laws.Matrix.{Holds, Joined, joins}
+use Rattle.graphs.specs.laws.Matrix.{Marks, cell, joins}
 
 -- ---- tests
 pub clash : {X : Type 0} → false ≡ true → X
@@ -29,26 +28,33 @@ pub both-ways : (a b : Bool) → (a ≡ true → b ≡ true) → (b ≡ true →
 both-ways a true f g = g refl
 both-ways a false f g = not-so a (λ e. clash (f e))
 
--- ---- why two clocks are a pair: they were in m, or P has them, in one direction or the other
-pub data Came (P : ℕ → ℕ → Type 0) (m : List ℕ) (e f : ℕ) : Type 0 where
-  old : pairOf m clocks e f ≡ true → Came P m e f
-  there : P e f → Came P m e f
-  back : P f e → Came P m e f
+-- ---- why a cell is as it is: it stayed, or P has the pair, in one direction or the other
+pub data Came (P : ℕ → ℕ → Type 0) (m m′ : List ℕ) (e f : ℕ) : Type 0 where
+  stayed : cell m′ e f ≡ cell m e f → Came P m m′ e f
+  there : P e f → Came P m m′ e f
+  back : P f e → Came P m m′ e f
 
--- m′ is m with the pairs of P
+-- m′ is m with the cells of the pairs of P set, in both directions
 pub record Added (P : ℕ → ℕ → Type 0) (m m′ : List ℕ) : Type 0 where
   pub room : length m′ ≡ length m
-  pub kept : (e f : ℕ) → e < clocks → f < clocks → pairOf m clocks e f ≡ true → pairOf m′ clocks e f ≡ true
-  pub new : (e f : ℕ) → e < clocks → f < clocks → P e f → (pairOf m′ clocks e f ≡ true) × (pairOf m′ clocks f e ≡ true)
-  pub only : (e f : ℕ) → e < clocks → f < clocks → pairOf m′ clocks e f ≡ true → Came P m e f
+  pub new : (e f : ℕ) → e < clocks → f < clocks → P e f → (cell m′ e f ≡ 1) × (cell m′ f e ≡ 1)
+  pub only : (e f : ℕ) → e < clocks → f < clocks → Came P m m′ e f
+
+-- what was set stays set
+pub added-kept : {P : ℕ → ℕ → Type 0} {m m′ : List ℕ} → Added P m m′ → (e f : ℕ) → e < clocks → f < clocks → cell m e f ≡ 1 → cell m′ e f ≡ 1
+added-kept {P} {m} {m′} a e f he hf h = go (a .only e f he hf)
+  where
+    go : Came P m m′ e f → cell m′ e f ≡ 1
+    go (stayed q) = q ∙ h
+    go (there q) = a .new e f he hf q .0
+    go (back q) = a .new f e hf he q .1
 
 -- no pairs
 pub added-none : {P : ℕ → ℕ → Type 0} {m : List ℕ} → ((e f : ℕ) → e < clocks → f < clocks → P e f → ⊥) → Added P m m
 added-none n = record {
   room = refl;
-  kept = λ e f he hf h. h;
   new = λ e f he hf p. absurd (n e f he hf p);
-  only = λ e f he hf h. old h;
+  only = λ e f he hf. stayed refl;
 }
 
 -- some, and then others
@@ -59,24 +65,20 @@ pub added-then : {P Q R : ℕ → ℕ → Type 0} {m n o : List ℕ} → Added P
     → Added R m o
 added-then {P} {Q} {R} {m} {n} {o} a b p q r = record {
   room = b .room ∙ a .room;
-  kept = λ e f he hf h. b .kept e f he hf (a .kept e f he hf h);
   new = λ e f he hf h. made e f he hf (r e f he hf h);
-  only = λ e f he hf h. later e f he hf (b .only e f he hf h);
+  only = λ e f he hf. later e f he hf (a .only e f he hf) (b .only e f he hf);
 }
   where
-    made : (e f : ℕ) → e < clocks → f < clocks → P e f ⊎ Q e f → (pairOf o clocks e f ≡ true) × (pairOf o clocks f e ≡ true)
-    made e f he hf (inl h) = let k = a .new e f he hf h in (b .kept e f he hf (k .0), b .kept f e hf he (k .1))
+    made : (e f : ℕ) → e < clocks → f < clocks → P e f ⊎ Q e f → (cell o e f ≡ 1) × (cell o f e ≡ 1)
+    made e f he hf (inl h) = let k = a .new e f he hf h in (added-kept b e f he hf (k .0), added-kept b f e hf he (k .1))
     made e f he hf (inr h) = b .new e f he hf h
 
-    first : (e f : ℕ) → e < clocks → f < clocks → Came P m e f → Came R m e f
-    first e f he hf (old h) = old h
-    first e f he hf (there h) = there (p e f he hf h)
-    first e f he hf (back h) = back (p f e hf he h)
-
-    later : (e f : ℕ) → e < clocks → f < clocks → Came Q n e f → Came R m e f
-    later e f he hf (old h) = first e f he hf (a .only e f he hf h)
-    later e f he hf (there h) = there (q e f he hf h)
-    later e f he hf (back h) = back (q f e hf he h)
+    later : (e f : ℕ) → e < clocks → f < clocks → Came P m n e f → Came Q n o e f → Came R m o e f
+    later e f he hf (stayed h) (stayed k) = stayed (k ∙ h)
+    later e f he hf (there h) (stayed k) = there (p e f he hf h)
+    later e f he hf (back h) (stayed k) = back (p f e hf he h)
+    later e f he hf h (there k) = there (q e f he hf k)
+    later e f he hf h (back k) = back (q f e hf he k)
 
 -- the same pairs said in another way
 pub added-same : {P R : ℕ → ℕ → Type 0} {m n : List ℕ} → Added P m n
@@ -85,13 +87,12 @@ pub added-same : {P R : ℕ → ℕ → Type 0} {m n : List ℕ} → Added P m n
     → Added R m n
 added-same {P} {R} {m} {n} a p r = record {
   room = a .room;
-  kept = a .kept;
   new = λ e f he hf h. a .new e f he hf (r e f he hf h);
-  only = λ e f he hf h. turned e f he hf (a .only e f he hf h);
+  only = λ e f he hf. turned e f he hf (a .only e f he hf);
 }
   where
-    turned : (e f : ℕ) → e < clocks → f < clocks → Came P m e f → Came R m e f
-    turned e f he hf (old h) = old h
+    turned : (e f : ℕ) → e < clocks → f < clocks → Came P m n e f → Came R m n e f
+    turned e f he hf (stayed h) = stayed h
     turned e f he hf (there h) = there (p e f he hf h)
     turned e f he hf (back h) = back (p f e hf he h)
 
@@ -100,12 +101,11 @@ pub record One (c d e f : ℕ) : Type 0 where
   pub left : e ≡ c
   pub right : f ≡ d
 
-pub joined-added : {m n : List ℕ} {c d : ℕ} → Joined m c d n → Added (One c d) m n
+pub joined-added : {m n : List ℕ} {c d : ℕ} → Marks (joins c d) m n → Added (One c d) m n
 joined-added {m} {n} {c} {d} j = record {
   room = j .room;
-  kept = λ e f he hf h. j .pairs .at e f he hf ∙ rw h refl;
-  new = λ e f he hf h. (j .pairs .at e f he hf ∙ or-right (pairOf m clocks e f) (forth e f h), j .pairs .at f e hf he ∙ or-right (pairOf m clocks f e) (turn e f h));
-  only = λ e f he hf h. came e f (or-either (pairOf m clocks e f) (joins c d e f) (sym (j .pairs .at e f he hf) ∙ h));
+  new = λ e f he hf h. (set-at e f he hf (forth e f h), set-at f e hf he (turn e f h));
+  only = λ e f he hf. came e f he hf (joins c d e f) refl;
 }
   where
     both : (e f : ℕ) → One c d e f → (eqb c e && eqb d f) ≡ true
@@ -117,32 +117,38 @@ joined-added {m} {n} {c} {d} j = record {
     turn : (e f : ℕ) → One c d e f → joins c d f e ≡ true
     turn e f o = or-right (eqb c f && eqb d e) (both e f o)
 
+    set-at : (e f : ℕ) → e < clocks → f < clocks → joins c d e f ≡ true → cell n e f ≡ 1
+    set-at e f he hf h = j .cells e f he hf ∙ ap (λ (b : Bool). cond b 1 (cell m e f)) h
+
     one : (e f : ℕ) → (eqb c e && eqb d f) ≡ true → One c d e f
     one e f h = record { left = sym (eqb-true c e (and-left (eqb c e) (eqb d f) h)); right = sym (eqb-true d f (and-right (eqb c e) (eqb d f) h)) }
 
-    which : (e f : ℕ) → ((eqb c e && eqb d f) ≡ true) ⊎ ((eqb c f && eqb d e) ≡ true) → Came (One c d) m e f
+    which : (e f : ℕ) → ((eqb c e && eqb d f) ≡ true) ⊎ ((eqb c f && eqb d e) ≡ true) → Came (One c d) m n e f
     which e f (inl h) = there (one e f h)
     which e f (inr h) = back (one f e h)
 
-    came : (e f : ℕ) → (pairOf m clocks e f ≡ true) ⊎ (joins c d e f ≡ true) → Came (One c d) m e f
-    came e f (inl h) = old h
-    came e f (inr h) = which e f (or-either (eqb c e && eqb d f) (eqb c f && eqb d e) h)
+    came : (e f : ℕ) → e < clocks → f < clocks → (b : Bool) → joins c d e f ≡ b → Came (One c d) m n e f
+    came e f he hf true h = which e f (or-either (eqb c e && eqb d f) (eqb c f && eqb d e) h)
+    came e f he hf false h = stayed (j .cells e f he hf ∙ ap (λ (b : Bool). cond b 1 (cell m e f)) h)
 
--- pairs added to none are what the matrix holds
-pub added-holds : {P : ℕ → ℕ → Type 0} {m n : List ℕ} (h : ℕ → ℕ → Bool)
-    → ((e f : ℕ) → e < clocks → f < clocks → pairOf m clocks e f ≡ false)
+-- pairs that a test h has, and it has no others, but for their direction
+pub added-marks : {P : ℕ → ℕ → Type 0} {m n : List ℕ} (h : ℕ → ℕ → Bool)
     → Added P m n
     → ((e f : ℕ) → h e f ≡ h f e)
     → ((e f : ℕ) → e < clocks → f < clocks → P e f → h e f ≡ true)
     → ((e f : ℕ) → e < clocks → f < clocks → h e f ≡ true → P e f ⊎ P f e)
-    → Holds h n
-added-holds {P} {m} {n} h dark a s to fro = record { at = λ e f he hf. both-ways (pairOf n clocks e f) (h e f) (λ k. so e f he hf (a .only e f he hf k)) (λ k. made e f he hf (fro e f he hf k)) }
+    → Marks h m n
+added-marks {P} {m} {n} h a s to fro = record { room = a .room; cells = λ e f he hf. go e f he hf (h e f) refl }
   where
-    so : (e f : ℕ) → e < clocks → f < clocks → Came P m e f → h e f ≡ true
-    so e f he hf (old k) = clash (sym (dark e f he hf) ∙ k)
-    so e f he hf (there k) = to e f he hf k
-    so e f he hf (back k) = s e f ∙ to f e hf he k
-
-    made : (e f : ℕ) → e < clocks → f < clocks → P e f ⊎ P f e → pairOf n clocks e f ≡ true
+    made : (e f : ℕ) → e < clocks → f < clocks → P e f ⊎ P f e → cell n e f ≡ 1
     made e f he hf (inl k) = a .new e f he hf k .0
     made e f he hf (inr k) = a .new f e hf he k .1
+
+    not-new : (e f : ℕ) → e < clocks → f < clocks → h e f ≡ false → Came P m n e f → cell n e f ≡ cell m e f
+    not-new e f he hf q (stayed k) = k
+    not-new e f he hf q (there k) = clash (sym q ∙ to e f he hf k)
+    not-new e f he hf q (back k) = clash (sym q ∙ s e f ∙ to f e hf he k)
+
+    go : (e f : ℕ) → e < clocks → f < clocks → (b : Bool) → h e f ≡ b → cell n e f ≡ cond (h e f) 1 (cell m e f)
+    go e f he hf true q = rw q (made e f he hf (fro e f he hf q))
+    go e f he hf false q = rw q (not-new e f he hf q (a .only e f he hf))

@@ -7,22 +7,18 @@ use Prim.Native.Nat.{ℕ, _+_, _*_, _-_, _/_, _%_, _^_, _≤_, _<_}
 use native.Mathlib.Omega.{arith}
 use native.Mathlib.Decide.{decLt}
 use lib.Dec.{eqb, leb, ltb}
-use lib.ListN.{replicate, getD-replicate}
 use borrow.Author.Tests.{eq-eqb, ne-eqb, lt-ltb, le-ltb, le-leb, lt-leb, ltb-true, leb-true, eqb-true, eqb-false, not-true}
 use Rattle.numbers.specs.declared.Machine.{Machine}
 use Rattle.numbers.specs.declared.File.{File}
 use Rattle.numbers.specs.declared.Clock.{Clock}
-use Rattle.numbers.specs.declared.Owner.{Owner}
 use Rattle.numbers.specs.declared.Owner.the-variants.{Domain, Private}
 use Rattle.numbers.specs.Numbers.{clocks, noClock, clockOf, privateOf, whatIs}
 use Rattle.numbers.specs.Theorems.{domain-number, private-number}
-use Rattle.paths.specs.Matrix.{pairOf}
-use Rattle.paths.specs.laws.Least.{and-left, and-right, and-both}
-use Rattle.graphs.specs.Links.{linksOf}
+use Rattle.paths.specs.laws.Least.{and-left, and-right}
 use Rattle.graphs.specs.Graphs.{World, worldOf, owner, domains, loose, to-trace, guess}
-use Rattle.graphs.specs.laws.Matrix.{Holds, Joined}
+use Rattle.graphs.specs.laws.Matrix.{Marks, joins}
 use Rattle.graphs.specs.laws.Shape.{guess-sym}
-use Rattle.graphs.specs.laws.Added.{clash, or-right, or-either, Added, One, added-none, added-then, added-same, joined-added, added-holds}
+use Rattle.graphs.specs.laws.Added.{clash, or-right, or-either, Added, One, added-none, added-then, added-same, joined-added, added-marks}
 
 -- graph g guesses domain d
 abbrev pub guesses : ℕ → ℕ → Bool
@@ -70,7 +66,7 @@ pub record Row (d m n e f : ℕ) : Type 0 where
 pub row-start : (d m : ℕ) (t : List ℕ) → Added (Row d m 0) t t
 row-start d m t = added-none (λ e f he hf r. let l = r .upto in omega arith)
 
-pub row-more : {d m n : ℕ} {p q : Machine} {s t u : List ℕ} → 1 ≤ d → d ≤ 6 → n < m → p .0 ≡ m → q .0 ≡ n → Added (Row d m n) s t → Joined t (clockOf d p .0) (clockOf d q .0) u → Added (Row d m (n + 1)) s u
+pub row-more : {d m n : ℕ} {p q : Machine} {s t u : List ℕ} → 1 ≤ d → d ≤ 6 → n < m → p .0 ≡ m → q .0 ≡ n → Added (Row d m n) s t → Marks (joins (clockOf d p .0) (clockOf d q .0)) t u → Added (Row d m (n + 1)) s u
 row-more {d} {m} {n} {p} {q} {s} {t} {u} a b l pm qn r j = added-then r (joined-added j) weak one parts
   where
     weak : (e f : ℕ) → e < clocks → f < clocks → Row d m n e f → Row d m (n + 1) e f
@@ -200,7 +196,7 @@ module _ (pinned trace : ℕ) (k : File) (t : List ℕ) where
       none e f he hf r = r .apart (omega (arith, r .goal, r .from, r .to, private-number k (omega (arith, r .from))))
 
   -- any other
-  pub free-joined : {u : List ℕ} → eqb (pinned / 2 ^ k .0 % 2) 0 ≡ true → (privateOf k .0 ≡ trace → ⊥) → Joined t trace (privateOf k .0) u → Added (Free pinned trace (k .0) (k .0 + 1)) t u
+  pub free-joined : {u : List ℕ} → eqb (pinned / 2 ^ k .0 % 2) 0 ≡ true → (privateOf k .0 ≡ trace → ⊥) → Marks (joins trace (privateOf k .0)) t u → Added (Free pinned trace (k .0) (k .0 + 1)) t u
   free-joined {u} h n j = added-same (joined-added j) to fro
     where
       to : (e f : ℕ) → e < clocks → f < clocks → One trace (privateOf k .0) e f → Free pinned trace (k .0) (k .0 + 1) e f
@@ -306,19 +302,16 @@ module _ (machines files pinned trace : ℕ) where
       go (no l) = private (omega arith) (rw (own-file f (omega arith) hf) at h)
 
   -- ---- the guesses of each graph
-  module _ (g : ℕ) (m : List ℕ) (z : m ≡ replicate (clocks * clocks) 0) where
-    dark : (e f : ℕ) → e < clocks → f < clocks → pairOf m clocks e f ≡ false
-    dark e f he hf = rw (z, getD-replicate {A = ℕ} (clocks * clocks) (e * clocks + f) 0 0 (omega arith)) refl
-
+  module _ (g : ℕ) (m : List ℕ) where
     -- graph 1 has none
-    pub guess-none : g < 2 → Holds (guess g world) m
+    pub guess-none : g < 2 → Marks (guess g world) m m
     unfolding guess
-    guess-none h = record { at = λ e f he hf. dark e f he hf ∙ sym (rw (lt-leb 2 g h) refl) }
+    guess-none h = record { room = refl; cells = λ e f he hf. sym (rw (lt-leb 2 g h) refl) }
 
     -- graph 2 has those of domains
-    pub guess-domains : {n : List ℕ} → 2 ≤ g → g < 3 → Added (Part g 0 (6 * machines)) m n → Holds (guess g world) n
+    pub guess-domains : {n : List ℕ} → 2 ≤ g → g < 3 → Added (Part g 0 (6 * machines)) m n → Marks (guess g world) m n
     unfolding guess
-    guess-domains {n} h l a = added-holds (guess g world) dark a (guess-sym g world) to fro
+    guess-domains {n} h l a = added-marks (guess g world) a (guess-sym g world) to fro
       where
         to : (e f : ℕ) → e < clocks → f < clocks → Part g 0 (6 * machines) e f → guess g world e f ≡ true
         to e f he hf k = rw (le-leb 2 g h, part-true g machines e f k) refl
@@ -334,9 +327,9 @@ module _ (machines files pinned trace : ℕ) where
     abbrev Either : ℕ → ℕ → Type 0
     Either e f = Part g 0 (6 * machines) e f ⊎ Free pinned trace 0 files e f
 
-    pub guess-files : {n o : List ℕ} → 3 ≤ g → Added (Part g 0 (6 * machines)) m n → Added (Free pinned trace 0 files) n o → Holds (guess g world) o
+    pub guess-files : {n o : List ℕ} → 3 ≤ g → Added (Part g 0 (6 * machines)) m n → Added (Free pinned trace 0 files) n o → Marks (guess g world) m o
     unfolding guess
-    guess-files {n} {o} h a b = added-holds (guess g world) dark (added-then a b (λ e f he hf k. inl k) (λ e f he hf k. inr k) (λ e f he hf k. k)) (guess-sym g world) to fro
+    guess-files {n} {o} h a b = added-marks (guess g world) (added-then a b (λ e f he hf k. inl k) (λ e f he hf k. inr k) (λ e f he hf k. k)) (guess-sym g world) to fro
       where
         to : (e f : ℕ) → e < clocks → f < clocks → Either e f → guess g world e f ≡ true
         to e f he hf (inl k) = rw (le-leb 2 g (omega arith), part-true g machines e f k) refl

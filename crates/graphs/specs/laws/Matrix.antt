@@ -1,5 +1,5 @@
--- A matrix that holds a graph: its guesses, and then its links one after the other. Assumes nothing.
-use Prim.Native.Nat.{ℕ, _+_, _*_, _-_, _/_, _%_, _^_, _≤_, _<_}
+-- A matrix that holds a graph: which cells are set when two clocks, and the clocks of the links one after the other, are joined. Assumes nothing.
+use Prim.Native.Nat.{ℕ, _+_, _*_, _/_, _%_, _^_, _≤_, _<_}
 use native.Mathlib.Numerals.{add-one}
 use native.Mathlib.Nat.{pow-le-pow-right, div-eq-of-lt}
 use native.Mathlib.Omega.{arith}
@@ -7,18 +7,17 @@ use native.Mathlib.Decide.{decLt, ℕ-discrete}
 use mathlib.Core.Bool.{Bool, true, false, cond, _&&_, _||_}
 use mathlib.Core.Path.{_≡_, refl, sym, ap, _∙_}
 use mathlib.Core.List.{List, [], _∷_, _++_}
-use lib.Dec.{eqb, ltb}
+use lib.Dec.{eqb}
 use lib.IntN.{ℤ}
 use lib.ListN.{length, getD, set, take, length-set}
 use lib.Seq.{getD-set-same, getD-set-other, take-length}
-use borrow.Author.Count.{below-more}
 use borrow.Author.Tests.{eq-eqb, ne-eqb}
 use Rattle.numbers.specs.Numbers.{clocks}
 use Rattle.whole.specs.Pairs.{Pair}
 use Rattle.paths.specs.Matrix.{far, pairOf, isGraph, empty, graphOf, distances, nexts}
 use Rattle.paths.specs.laws.Graph.{whole-graph, graph-held, graph-empty, graph-whole}
 use Rattle.graphs.specs.Links.{Link, linksOf, listOf}
-use Rattle.graphs.specs.Graphs.{World, worldOf, to-trace, guess, orGuess, along, some, joined, graph, graphIn}
+use Rattle.graphs.specs.Graphs.{World, guess, orGuess, along, some, joined, graph, linked}
 use Rattle.graphs.specs.laws.Links.{linkAt, seen, list-more, take-links}
 use Rattle.graphs.specs.laws.Same.{Alike, distances-same, nexts-same, distances-none, nexts-none}
 
@@ -51,52 +50,48 @@ some-seen l e f =
       | false ↦ elim (eqb (l .a) f && eqb (l .b) e) as (λ q. some (cond q (record { x = l .y; y = l .x } ∷ []) []) ≡ q) [ true ↦ refl | false ↦ refl ]
     ]
 
-or-assoc : (p q r : Bool) → ((p || q) || r) ≡ (p || (q || r))
-or-assoc true q r = refl
-or-assoc false q r = refl
-
-or-none : (p : Bool) → (p || false) ≡ p
-or-none true = refl
-or-none false = refl
+-- set by one, or by another
+or-cond : (p q : Bool) (x : ℕ) → cond q 1 (cond p 1 x) ≡ cond (p || q) 1 x
+or-cond true true x = refl
+or-cond true false x = refl
+or-cond false q x = refl
 
 -- ---- what a matrix holds
 -- f of every two clocks
 pub record Holds (f : ℕ → ℕ → Bool) (m : List ℕ) : Type 0 where
   pub at : (e d : ℕ) → e < clocks → d < clocks → pairOf m clocks e d ≡ f e d
 
--- m′ is m with c and d joined
-pub record Joined (m : List ℕ) (c d : ℕ) (m′ : List ℕ) : Type 0 where
+-- the cell of two clocks
+abbrev pub cell : List ℕ → ℕ → ℕ → ℕ
+cell m e f = getD m (e * clocks + f) 0
+
+-- m′ is m with the cell of each pair of P set
+pub record Marks (P : ℕ → ℕ → Bool) (m m′ : List ℕ) : Type 0 where
   pub room : length m′ ≡ length m
-  pub pairs : Holds (λ e f. pairOf m clocks e f || joins c d e f) m′
+  pub cells : (e f : ℕ) → e < clocks → f < clocks → cell m′ e f ≡ cond (P e f) 1 (cell m e f)
 
 -- what stands in a cell after one is set
-set-cell : (m : List ℕ) (c d e f : ℕ) → length m ≡ clocks * clocks → c < clocks → d < clocks → e < clocks → f < clocks → pairOf (set m (c * clocks + d) 1) clocks e f ≡ (pairOf m clocks e f || (eqb c e && eqb d f))
+set-cell : (m : List ℕ) (c d e f : ℕ) → length m ≡ clocks * clocks → c < clocks → d < clocks → e < clocks → f < clocks → cell (set m (c * clocks + d) 1) e f ≡ cond (eqb c e && eqb d f) 1 (cell m e f)
 set-cell m c d e f z hc hd he hf = go (ℕ-discrete c e) (ℕ-discrete d f)
   where
-    other : ((e * clocks + f ≡ c * clocks + d) → ⊥) → (eqb c e && eqb d f) ≡ false → pairOf (set m (c * clocks + d) 1) clocks e f ≡ (pairOf m clocks e f || (eqb c e && eqb d f))
-    other n q = ap (ltb 0) (getD-set-other m (c * clocks + d) (e * clocks + f) 1 0 n) ∙ sym (or-none (pairOf m clocks e f)) ∙ ap (λ (b : Bool). pairOf m clocks e f || b) (sym q)
+    other : ((e * clocks + f ≡ c * clocks + d) → ⊥) → (eqb c e && eqb d f) ≡ false → cell (set m (c * clocks + d) 1) e f ≡ cond (eqb c e && eqb d f) 1 (cell m e f)
+    other n q = getD-set-other m (c * clocks + d) (e * clocks + f) 1 0 n ∙ sym (ap (λ (b : Bool). cond b 1 (cell m e f)) q)
 
-    or-true : (b : Bool) → true ≡ (b || true)
-    or-true true = refl
-    or-true false = refl
-
-    go : Dec (c ≡ e) → Dec (d ≡ f) → pairOf (set m (c * clocks + d) 1) clocks e f ≡ (pairOf m clocks e f || (eqb c e && eqb d f))
+    go : Dec (c ≡ e) → Dec (d ≡ f) → cell (set m (c * clocks + d) 1) e f ≡ cond (eqb c e && eqb d f) 1 (cell m e f)
     go (yes p) (yes q) =
         let s : e * clocks + f ≡ c * clocks + d = omega arith in
-        rw (eq-eqb c e p, eq-eqb d f q) (ap (λ (i : ℕ). ltb 0 (getD (set m (c * clocks + d) 1) i 0)) s ∙ ap (ltb 0) (getD-set-same m (c * clocks + d) 1 0 (omega arith)) ∙ or-true (pairOf m clocks e f))
+        rw (eq-eqb c e p, eq-eqb d f q) (ap (λ (i : ℕ). getD (set m (c * clocks + d) 1) i 0) s ∙ getD-set-same m (c * clocks + d) 1 0 (omega arith))
     go (yes p) (no q) = other (λ s. q (omega arith)) (rw (eq-eqb c e p, ne-eqb d f q) refl)
     go (no p) q = other (λ s. p (omega arith)) (rw (ne-eqb c e p) refl)
 
-pub join-both : (m : List ℕ) (c d : ℕ) → length m ≡ clocks * clocks → c < clocks → d < clocks → Joined m c d (set (set m (c * clocks + d) 1) (d * clocks + c) 1)
+pub join-both : (m : List ℕ) (c d : ℕ) → length m ≡ clocks * clocks → c < clocks → d < clocks → Marks (joins c d) m (set (set m (c * clocks + d) 1) (d * clocks + c) 1)
 join-both m c d z hc hd = record {
   room = length-set (set m (c * clocks + d) 1) (d * clocks + c) 1 ∙ length-set m (c * clocks + d) 1;
-  pairs = record {
-    at = λ e f he hf.
-        set-cell (set m (c * clocks + d) 1) d c e f (length-set m (c * clocks + d) 1 ∙ z) hd hc he hf
-        ∙ ap (λ (b : Bool). b || (eqb d e && eqb c f)) (set-cell m c d e f z hc hd he hf)
-        ∙ or-assoc (pairOf m clocks e f) (eqb c e && eqb d f) (eqb d e && eqb c f)
-        ∙ ap (λ (b : Bool). pairOf m clocks e f || ((eqb c e && eqb d f) || b)) (swap (eqb d e) (eqb c f));
-  };
+  cells = λ e f he hf.
+      set-cell (set m (c * clocks + d) 1) d c e f (length-set m (c * clocks + d) 1 ∙ z) hd hc he hf
+      ∙ ap (λ (x : ℕ). cond (eqb d e && eqb c f) 1 x) (set-cell m c d e f z hc hd he hf)
+      ∙ or-cond (eqb c e && eqb d f) (eqb d e && eqb c f) (cell m e f)
+      ∙ ap (λ (b : Bool). cond ((eqb c e && eqb d f) || b) 1 (cell m e f)) (swap (eqb d e) (eqb c f));
 }
   where
     swap : (p q : Bool) → (p && q) ≡ (q && p)
@@ -106,8 +101,8 @@ join-both m c d z hc hd = record {
     swap false false = refl
 
 -- no clock: nothing is joined
-pub join-none : (m : List ℕ) (c d : ℕ) → ((e f : ℕ) → e < clocks → f < clocks → joins c d e f ≡ false) → Joined m c d m
-join-none m c d n = record { room = refl; pairs = record { at = λ e f he hf. sym (or-none (pairOf m clocks e f)) ∙ ap (λ (b : Bool). pairOf m clocks e f || b) (sym (n e f he hf)) } }
+pub join-none : (m : List ℕ) (c d : ℕ) → ((e f : ℕ) → e < clocks → f < clocks → joins c d e f ≡ false) → Marks (joins c d) m m
+join-none m c d n = record { room = refl; cells = λ e f he hf. sym (ap (λ (b : Bool). cond b 1 (cell m e f)) (n e f he hf)) }
 
 pub past-left : (c d : ℕ) → clocks ≤ c → (e f : ℕ) → e < clocks → f < clocks → joins c d e f ≡ false
 past-left c d h e f he hf = rw (ne-eqb c e (λ q. omega arith), ne-eqb c f (λ q. omega arith)) refl
@@ -127,22 +122,23 @@ module _ (fs : List ℕ) (xs : List ℤ) (gs : List ℕ) (ys : List ℤ) (m₀ :
   pub record Linked (m : List ℕ) (k : ℕ) : Type 0 where
     pub room : length m ≡ clocks * clocks
     pub upto : k ≤ length (linksOf fs xs gs ys)
-    pub pairs : Holds (λ e f. pairOf m₀ clocks e f || some (listOf (take k (linksOf fs xs gs ys)) e f)) m
+    pub marks : Marks (linked (take k (linksOf fs xs gs ys))) m₀ m
 
   pub link-start : length m₀ ≡ clocks * clocks → Linked m₀ 0
   unfolding some listOf
-  link-start z = record { room = z; upto = omega arith; pairs = record { at = λ e f he hf. sym (or-none (pairOf m₀ clocks e f)) } }
+  link-start z = record { room = z; upto = omega arith; marks = record { room = refl; cells = λ e f he hf. refl } }
 
-  pub link-more : {m m′ : List ℕ} {k : ℕ} → Linked m k → k < length (linksOf fs xs gs ys) → Joined m (getD fs k 0) (getD gs k 0) m′ → Linked m′ (k + 1)
+  pub link-more : {m m′ : List ℕ} {k : ℕ} → Linked m k → k < length (linksOf fs xs gs ys) → Marks (joins (getD fs k 0) (getD gs k 0)) m m′ → Linked m′ (k + 1)
   link-more {m} {m′} {k} s h j = record {
     room = j .room ∙ s .room;
     upto = omega arith;
-    pairs = record {
-      at = λ e f he hf.
-          j .pairs .at e f he hf
-          ∙ ap (λ (b : Bool). b || joins (getD fs k 0) (getD gs k 0) e f) (s .pairs .at e f he hf)
-          ∙ or-assoc (pairOf m₀ clocks e f) (some (listOf (take k (linksOf fs xs gs ys)) e f)) (joins (getD fs k 0) (getD gs k 0) e f)
-          ∙ ap (λ (b : Bool). pairOf m₀ clocks e f || b) (sym (one-more e f));
+    marks = record {
+      room = j .room ∙ s .marks .room;
+      cells = λ e f he hf.
+          j .cells e f he hf
+          ∙ ap (λ (x : ℕ). cond (joins (getD fs k 0) (getD gs k 0) e f) 1 x) (s .marks .cells e f he hf)
+          ∙ or-cond (linked (take k (linksOf fs xs gs ys)) e f) (joins (getD fs k 0) (getD gs k 0) e f) (cell m₀ e f)
+          ∙ ap (λ (b : Bool). cond b 1 (cell m₀ e f)) (sym (one-more e f));
     };
   }
     where
@@ -154,24 +150,11 @@ module _ (fs : List ℕ) (xs : List ℤ) (gs : List ℕ) (ys : List ℤ) (m₀ :
           ∙ some-append (listOf (take k (linksOf fs xs gs ys)) e f) (seen (linkAt fs xs gs ys k) e f)
           ∙ ap (λ (b : Bool). some (listOf (take k (linksOf fs xs gs ys)) e f) || b) (some-seen (linkAt fs xs gs ys k) e f)
 
-  pub link-done : {m : List ℕ} {k : ℕ} → Linked m k → length (linksOf fs xs gs ys) ≤ k → Holds (λ e f. pairOf m₀ clocks e f || some (listOf (linksOf fs xs gs ys) e f)) m
-  link-done {m} {k} s h = record {
-    at = λ e f he hf.
-        let q : k ≡ length (linksOf fs xs gs ys) = omega (arith, s .upto) in
-        s .pairs .at e f he hf
-        ∙ ap (λ (l : List Link). pairOf m₀ clocks e f || some (listOf l e f)) (ap (λ (i : ℕ). take i (linksOf fs xs gs ys)) q ∙ take-length (linksOf fs xs gs ys));
-  }
-
-  -- over the guesses of a graph
-  pub link-joined : {m : List ℕ} (g machines files pinned trace : ℕ)
-      → Holds (guess g (worldOf [] [] [] [] machines files pinned trace)) m₀
-      → Holds (λ e f. pairOf m₀ clocks e f || some (listOf (linksOf fs xs gs ys) e f)) m
-      → Holds (joined g (worldOf fs xs gs ys machines files pinned trace)) m
-  unfolding guess to-trace linksOf
-  link-joined {m} g machines files pinned trace h k = record {
-    at = λ e f he hf.
-        k .at e f he hf ∙ ap (λ (b : Bool). b || some (listOf (linksOf fs xs gs ys) e f)) (h .at e f he hf) ∙ sym (joined-is g (worldOf fs xs gs ys machines files pinned trace) e f);
-  }
+  pub link-done : {m : List ℕ} {k : ℕ} → Linked m k → length (linksOf fs xs gs ys) ≤ k → Marks (linked (linksOf fs xs gs ys)) m₀ m
+  link-done {m} {k} s h =
+      let q : k ≡ length (linksOf fs xs gs ys) = omega (arith, s .upto) in
+      let e : take k (linksOf fs xs gs ys) ≡ linksOf fs xs gs ys = ap (λ (i : ℕ). take i (linksOf fs xs gs ys)) q ∙ take-length (linksOf fs xs gs ys) in
+      rw e at (s .marks)
 
 -- ---- the matrix of the graph is the graph
 module _ (g : ℕ) (w : World) (m : List ℕ) (z : length m ≡ clocks * clocks) (h : Holds (joined g w) m) where
@@ -199,22 +182,6 @@ module _ (g : ℕ) (w : World) (m : List ℕ) (z : length m ≡ clocks * clocks)
       go (yes l) = nexts-same (alike l)
       go (no l) = ap nexts (no-graph (omega arith)) ∙ nexts-none empty (graph g w) (omega arith) (omega arith) refl
 
--- a memory of another size holds no graph
-pub room-wrong : (m : List ℕ) (t : ℕ) → (length m ≡ clocks * clocks → ⊥) → graphOf m clocks t ≡ empty
-room-wrong m t n = graph-empty m clocks t (go (isGraph m clocks t) refl)
-  where
-    go : (b : Bool) → isGraph m clocks t ≡ b → isGraph m clocks t ≡ false
-    go true e = absurd (n (graph-whole m clocks t e .square))
-    go false e = e
-
-pub in-room : (room g : ℕ) (w : World) → room ≡ clocks * clocks → graphIn room g w ≡ graph g w
-unfolding graphIn
-in-room room g w e = rw (eq-eqb room (clocks * clocks) e)
-
-pub no-room : (room g : ℕ) (w : World) → (room ≡ clocks * clocks → ⊥) → graphIn room g w ≡ empty
-unfolding graphIn
-no-room room g w e = rw (ne-eqb room (clocks * clocks) e)
-
 -- ---- a machine or a file past what is listed
 pub not-pinned : (pinned f : ℕ) → pinned < 2 ^ 32 → 32 ≤ f → eqb (pinned / 2 ^ f % 2) 0 ≡ true
 not-pinned pinned f h l =
@@ -227,19 +194,3 @@ pub record Smaller (p q r : ℕ) : Type 0 where
   pub left : r ≤ p
   pub right : r ≤ q
   pub most : (m : ℕ) → m ≤ p → m ≤ q → m ≤ r
-
--- ---- what is searched
-module _ (g : ℕ) (w : World) (m : List ℕ) (room : ℕ) (z : length m ≡ room) (h : room ≡ clocks * clocks → Holds (joined g w) m) where
-  pub searched-distances : distances (graphOf m clocks (w .trace)) ≡ distances (graphIn room g w)
-  searched-distances = go (ℕ-discrete room (clocks * clocks))
-    where
-      go : Dec (room ≡ clocks * clocks) → distances (graphOf m clocks (w .trace)) ≡ distances (graphIn room g w)
-      go (yes e) = matrix-distances g w m (z ∙ e) (h e) ∙ ap distances (sym (in-room room g w e))
-      go (no e) = ap distances (room-wrong m (w .trace) (λ q. e (sym z ∙ q)) ∙ sym (no-room room g w e))
-
-  pub searched-nexts : nexts (graphOf m clocks (w .trace)) ≡ nexts (graphIn room g w)
-  searched-nexts = go (ℕ-discrete room (clocks * clocks))
-    where
-      go : Dec (room ≡ clocks * clocks) → nexts (graphOf m clocks (w .trace)) ≡ nexts (graphIn room g w)
-      go (yes e) = matrix-nexts g w m (z ∙ e) (h e) ∙ ap nexts (sym (in-room room g w e))
-      go (no e) = ap nexts (room-wrong m (w .trace) (λ q. e (sym z ∙ q)) ∙ sym (no-room room g w e))

@@ -1,12 +1,14 @@
 -- `members::walked`, `items_walked`, `member_walked` and `members_walked`, which call each other, meet their contracts. They end since the kind's number falls from an object to
 -- its members and from an array to its items: four times the number, and 3, 4, 1 and 2. The loops keep that what was found so far, with what the items or members still to come
 -- hold, is what all of them hold (`Sum`). Each answer is a step of the walk in the code's own values (`Standing`, `Walking`). Assumes nothing.
+use Rattle.table.specs.laws.Looking.{line-gives}
+use Rattle.table.specs.laws.Types.{tag-told}
 use mathlib.Core.Path.{sym, _∙_}
 use Prim.Native.Nat.{ℕ, _+_, _*_, _-_, _<_}
 use native.Mathlib.Omega.{arith}
 use lib.ListN.{length}
 use Rattle.text.specs.laws.Peek.{found-in}
-use Rattle.members.proofs.Judged.{item-falls}
+use Rattle.members.specs.laws.Judged.{item-falls}
 use Rattle.members.proofs.Standing.{free-told, wrong-told, scalar-told, array-inside, array-reads, array-told, object-inside, object-reads, object-told, object-kind}
 use Rattle.members.proofs.Walking.{ItemsLeft, items-none, items-start, item-reads, items-inside, items-last, items-next, value-falls, value-reads, member-told, MembersLeft, members-none, members-start, member-reads, members-inside, members-last, members-next}
 use borrow.Fn.Kinds.{In}
@@ -28,12 +30,12 @@ use Rattle.members.proofs.either.Reads as either-reads
 use Rattle.members.proofs.end_of.Reads as end-of-reads
 use Rattle.members.proofs.item_kind.Reads as item-kind-reads
 use Rattle.members.proofs.lacking.Reads as lacking-reads
-use Rattle.members.proofs.line_of.Reads as line-of-reads
+use Rattle.table.proofs.line_of.Reads as line-of-reads
 use Rattle.members.proofs.noted.Reads as noted-reads
 use Rattle.members.proofs.passed.Reads as passed-reads
-use Rattle.members.proofs.tag_at.Reads as tag-at-reads
-use Rattle.members.proofs.value_kind.Reads as value-kind-reads
-use Rattle.members.proofs.wanted.Reads as wanted-reads
+use Rattle.table.proofs.tag_at.Reads as tag-at-reads
+use Rattle.table.proofs.value_kind.Reads as value-kind-reads
+use Rattle.table.proofs.wanted.Reads as wanted-reads
 use Rattle.text.proofs.blank.Reads as blank-reads
 use Rattle.text.proofs.byte.Reads as byte-reads
 use Rattle.members.proofs.+items_walked+member_walked+members_walked+walked.{statement}
@@ -309,7 +311,7 @@ member-walked-line-of-requires : (t : ℕ) → member-walked-lts.Need-line-of-re
   walked-below t,
   walked.Post,
 ) (member-walked-at t) member-walked.Post
-member-walked-line-of-requires t c κs = c .before .pre .1 .1
+member-walked-line-of-requires t c κs = tt
 
 member-walked-name-requires : (t : ℕ) → member-walked-lts.Need-name-requires (
   line-of-reads.Asked,
@@ -389,7 +391,7 @@ member-walked-walked-requires : (t : ℕ) → member-walked-lts.Need-walked-requ
   walked-below t,
   walked.Post,
 ) (member-walked-at t) member-walked.Post
-member-walked-walked-requires t c κs = let l = value-falls _ _ (c .before .before .before .before .line-of .ensures) (c .before .before .before .before .before .before .pre .1 .2) (c .before .before .before .before .before .before .pre .1 .0) in (omega (arith, l, c .value-kind .ensures, c .before .before .before .before .before .before .pre .0), (omega (arith, l, c .value-kind .ensures, c .before .before .before .before .before .before .pre .1 .1), value-reads _ _ (c .before .before .before .name .ensures) (c .before .before .end-of .ensures) (c .before .blank .ensures) (c .before .before .before .before .before .before .pre .1 .2)))
+member-walked-walked-requires t c κs = let l = value-falls _ _ (line-gives (c .before .before .before .before .line-of .ensures)) (c .before .before .before .before .before .before .pre .1 .2) (c .before .before .before .before .before .before .pre .1 .0) in (omega (arith, l, c .value-kind .ensures, c .before .before .before .before .before .before .pre .0), (omega (arith, l, c .value-kind .ensures, c .before .before .before .before .before .before .pre .1 .1), value-reads _ _ (c .before .before .before .name .ensures) (c .before .before .end-of .ensures) (c .before .blank .ensures) (c .before .before .before .before .before .before .pre .1 .2)))
 
 member-walked-returns : (t : ℕ) → member-walked-lts.Need-returns (
   line-of-reads.Asked,
@@ -405,7 +407,7 @@ member-walked-returns : (t : ℕ) → member-walked-lts.Need-returns (
   walked-below t,
   walked.Post,
 ) (member-walked-at t) member-walked.Post
-member-walked-returns t c = member-told _ _ (c .before .before .before .before .name .ensures) (c .before .before .before .end-of .ensures) (c .before .before .blank .ensures) (c .before .before .before .before .before .line-of .ensures) (c .before .value-kind .ensures) (c .walked .ensures)
+member-walked-returns t c = member-told _ _ (c .before .before .before .before .name .ensures) (c .before .before .before .end-of .ensures) (c .before .before .blank .ensures) (line-gives (c .before .before .before .before .before .line-of .ensures)) (c .before .value-kind .ensures) (c .walked .ensures)
 
 abbrev members-walked-Inv-loop : members-walked-lts.InvT-loop
 members-walked-Inv-loop s at object i₀ seen₀ twice₀ ill₀ i seen twice ill = MembersLeft object s at i seen twice ill
@@ -843,7 +845,7 @@ walked-returns-2 : (t : ℕ) → walked-lts.Need-returns-2 (
   members-walked-below t,
   members-walked.Post,
 ) (walked-at t) walked.Post
-walked-returns-2 t c = wrong-told _ _ _ (c .before .before .before .before .before .before .pre .1 .0) (c .before .before .before .before .if1 .left) (c .before .before .before .tag-at .ensures) (c .before .before .wanted .ensures) (c .before .if2 .taken) (c .passed2 .ensures)
+walked-returns-2 t c = wrong-told _ _ _ (c .before .before .before .before .before .before .pre .1 .0) (c .before .before .before .before .if1 .left) (tag-told (c .before .before .before .tag-at .ensures)) (c .before .before .wanted .ensures) (c .before .if2 .taken) (c .passed2 .ensures)
 
 walked-add-items-walked : (t : ℕ) → walked-lts.Need-add-items-walked (
   passed-reads.Asked,
@@ -859,7 +861,7 @@ walked-add-items-walked : (t : ℕ) → walked-lts.Need-add-items-walked (
   members-walked-below t,
   members-walked.Post,
 ) (walked-at t) walked.Post
-walked-add-items-walked t c = omega (arith, array-inside _ _ _ (c .before .before .before .before .before .before .pre .1 .0) (c .before .before .before .before .if1 .left) (c .before .before .before .tag-at .ensures) (c .before .before .wanted .ensures) (c .before .if2 .left) (c .match .keys1) (c .before .before .before .before .before .before .pre .1 .1))
+walked-add-items-walked t c = omega (arith, array-inside _ _ _ (c .before .before .before .before .before .before .pre .1 .0) (c .before .before .before .before .if1 .left) (tag-told (c .before .before .before .tag-at .ensures)) (c .before .before .wanted .ensures) (c .before .if2 .left) (c .match .keys1) (c .before .before .before .before .before .before .pre .1 .1))
 
 walked-item-kind-requires : (t : ℕ) → walked-lts.Need-item-kind-requires (
   passed-reads.Asked,
@@ -891,7 +893,7 @@ walked-items-walked-requires : (t : ℕ) → walked-lts.Need-items-walked-requir
   members-walked-below t,
   members-walked.Post,
 ) (walked-at t) walked.Post
-walked-items-walked-requires t c κs = let l = item-falls _ (c .before .before .before .before .before .before .before .pre .1 .0) (c .before .before .before .before .before .if1 .left) (sym (c .before .before .before .wanted .ensures) ∙ (sym (c .before .before .if2 .left) ∙ c .before .match .keys1)) in (omega (arith, l, c .item-kind .ensures, c .before .before .before .before .before .before .before .pre .0), (omega (arith, l, c .item-kind .ensures, c .before .before .before .before .before .before .before .pre .1 .0), array-reads _ _ _ (c .before .before .before .before .before .before .before .pre .1 .0) (c .before .before .before .before .before .if1 .left) (c .before .before .before .before .tag-at .ensures) (c .before .before .before .wanted .ensures) (c .before .before .if2 .left) (c .before .match .keys1) (c .before .before .before .before .before .before .before .pre .1 .1)))
+walked-items-walked-requires t c κs = let l = item-falls _ (c .before .before .before .before .before .before .before .pre .1 .0) (c .before .before .before .before .before .if1 .left) (sym (c .before .before .before .wanted .ensures) ∙ (sym (c .before .before .if2 .left) ∙ c .before .match .keys1)) in (omega (arith, l, c .item-kind .ensures, c .before .before .before .before .before .before .before .pre .0), (omega (arith, l, c .item-kind .ensures, c .before .before .before .before .before .before .before .pre .1 .0), array-reads _ _ _ (c .before .before .before .before .before .before .before .pre .1 .0) (c .before .before .before .before .before .if1 .left) (tag-told (c .before .before .before .before .tag-at .ensures)) (c .before .before .before .wanted .ensures) (c .before .before .if2 .left) (c .before .match .keys1) (c .before .before .before .before .before .before .before .pre .1 .1)))
 
 walked-add-members-walked : (t : ℕ) → walked-lts.Need-add-members-walked (
   passed-reads.Asked,
@@ -907,7 +909,7 @@ walked-add-members-walked : (t : ℕ) → walked-lts.Need-add-members-walked (
   members-walked-below t,
   members-walked.Post,
 ) (walked-at t) walked.Post
-walked-add-members-walked t c = omega (arith, object-inside _ _ _ (c .before .before .before .before .before .before .pre .1 .0) (c .before .before .before .before .if1 .left) (c .before .before .before .tag-at .ensures) (c .before .before .wanted .ensures) (c .before .if2 .left) (c .match .keys2) (c .before .before .before .before .before .before .pre .1 .1))
+walked-add-members-walked t c = omega (arith, object-inside _ _ _ (c .before .before .before .before .before .before .pre .1 .0) (c .before .before .before .before .if1 .left) (tag-told (c .before .before .before .tag-at .ensures)) (c .before .before .wanted .ensures) (c .before .if2 .left) (c .match .keys2) (c .before .before .before .before .before .before .pre .1 .1))
 
 walked-members-walked-requires : (t : ℕ) → walked-lts.Need-members-walked-requires (
   passed-reads.Asked,
@@ -923,7 +925,7 @@ walked-members-walked-requires : (t : ℕ) → walked-lts.Need-members-walked-re
   members-walked-below t,
   members-walked.Post,
 ) (walked-at t) walked.Post
-walked-members-walked-requires t c κs = (omega (arith, c .before .before .before .before .before .before .pre .0), (object-kind _ (c .before .before .before .before .if1 .left) (sym (c .before .before .wanted .ensures) ∙ (sym (c .before .if2 .left) ∙ c .match .keys2)), c .before .before .before .before .before .before .pre .1 .0, object-reads _ _ _ (c .before .before .before .before .before .before .pre .1 .0) (c .before .before .before .before .if1 .left) (c .before .before .before .tag-at .ensures) (c .before .before .wanted .ensures) (c .before .if2 .left) (c .match .keys2) (c .before .before .before .before .before .before .pre .1 .1)))
+walked-members-walked-requires t c κs = (omega (arith, c .before .before .before .before .before .before .pre .0), (object-kind _ (c .before .before .before .before .if1 .left) (sym (c .before .before .wanted .ensures) ∙ (sym (c .before .if2 .left) ∙ c .match .keys2)), c .before .before .before .before .before .before .pre .1 .0, object-reads _ _ _ (c .before .before .before .before .before .before .pre .1 .0) (c .before .before .before .before .if1 .left) (tag-told (c .before .before .before .tag-at .ensures)) (c .before .before .wanted .ensures) (c .before .if2 .left) (c .match .keys2) (c .before .before .before .before .before .before .pre .1 .1)))
 
 walked-passed-requires-3 : (t : ℕ) → walked-lts.Need-passed-requires-3 (
   passed-reads.Asked,
@@ -955,7 +957,7 @@ walked-returns-3 : (t : ℕ) → walked-lts.Need-returns-3 (
   members-walked-below t,
   members-walked.Post,
 ) (walked-at t) walked.Post
-walked-returns-3 t c = array-told _ _ _ (c .before .before .before .before .before .before .before .before .pre .1 .0) (c .before .before .before .before .before .before .if1 .left) (c .before .before .before .before .before .tag-at .ensures) (c .before .before .before .before .wanted .ensures) (c .before .before .before .if2 .left) (c .before .before .match .keys1) (c .before .item-kind .ensures) (c .items-walked .ensures)
+walked-returns-3 t c = array-told _ _ _ (c .before .before .before .before .before .before .before .before .pre .1 .0) (c .before .before .before .before .before .before .if1 .left) (tag-told (c .before .before .before .before .before .tag-at .ensures)) (c .before .before .before .before .wanted .ensures) (c .before .before .before .if2 .left) (c .before .before .match .keys1) (c .before .item-kind .ensures) (c .items-walked .ensures)
 
 walked-returns-4 : (t : ℕ) → walked-lts.Need-returns-4 (
   passed-reads.Asked,
@@ -971,7 +973,7 @@ walked-returns-4 : (t : ℕ) → walked-lts.Need-returns-4 (
   members-walked-below t,
   members-walked.Post,
 ) (walked-at t) walked.Post
-walked-returns-4 t c = object-told _ _ _ (c .before .before .before .before .before .before .before .pre .1 .0) (c .before .before .before .before .before .if1 .left) (c .before .before .before .before .tag-at .ensures) (c .before .before .before .wanted .ensures) (c .before .before .if2 .left) (c .before .match .keys2) (c .members-walked .ensures)
+walked-returns-4 t c = object-told _ _ _ (c .before .before .before .before .before .before .before .pre .1 .0) (c .before .before .before .before .before .if1 .left) (tag-told (c .before .before .before .before .tag-at .ensures)) (c .before .before .before .wanted .ensures) (c .before .before .if2 .left) (c .before .match .keys2) (c .members-walked .ensures)
 
 walked-returns-5 : (t : ℕ) → walked-lts.Need-returns-5 (
   passed-reads.Asked,
@@ -987,7 +989,7 @@ walked-returns-5 : (t : ℕ) → walked-lts.Need-returns-5 (
   members-walked-below t,
   members-walked.Post,
 ) (walked-at t) walked.Post
-walked-returns-5 t c = scalar-told _ _ _ (c .before .before .before .before .before .before .before .pre .1 .0) (c .before .before .before .before .before .if1 .left) (c .before .before .before .before .tag-at .ensures) (c .before .before .before .wanted .ensures) (c .before .before .if2 .left) (c .before .match .rest .0 .1) (c .before .match .rest .1) (c .passed3 .ensures)
+walked-returns-5 t c = scalar-told _ _ _ (c .before .before .before .before .before .before .before .pre .1 .0) (c .before .before .before .before .before .if1 .left) (tag-told (c .before .before .before .before .tag-at .ensures)) (c .before .before .before .wanted .ensures) (c .before .before .if2 .left) (c .before .match .rest .0 .1) (c .before .match .rest .1) (c .passed3 .ensures)
 
 pub +items-walked+member-walked+members-walked+walked-spec : {M : Type 1} → statement M
 +items-walked+member-walked+members-walked+walked-spec =

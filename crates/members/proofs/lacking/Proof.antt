@@ -3,7 +3,7 @@
 use mathlib.Core.Logic.{⊎-elim, inl, inr}
 use Prim.Native.Nat.{_-_}
 use native.Mathlib.Omega.{arith}
-use Rattle.members.proofs.Looking.{Full, full-start, full-inside, full-hit, full-on, full-over}
+use Rattle.members.specs.laws.Lacking.{Full, full-start, full-inside, full-hit, full-on, full-over}
 use Rattle.members.proofs.lacking.Statement.{statement}
 use Rattle.members.proofs.lacking.Tie as tie
 
@@ -17,16 +17,16 @@ add-first : tie.Need-add-first Inv-loop μ-loop
 add-first c = omega (arith, c .pre)
 
 first-requires : tie.Need-first-requires Inv-loop μ-loop
-first-requires c κs = omega (arith, c .pre)
+first-requires c κs = tt
 
 first-requires-2 : tie.Need-first-requires-2 Inv-loop μ-loop
-first-requires-2 c κs = omega (arith, c .before .pre)
+first-requires-2 c κs = tt
 
 loop-holds : tie.Need-loop-holds Inv-loop μ-loop
 loop-holds c = full-start _ _ (c .first2 .ensures)
 
 asked-requires : tie.Need-asked-requires Inv-loop μ-loop
-asked-requires c κs = full-inside _ _ (c .before .before .before .before .pre) (c .before .before .before .first .ensures) (c .before .loop .inv) (c .loop-test .taken)
+asked-requires c κs = tt
 
 element-copy-out-if2 : tie.Need-element-copy-out-if2 Inv-loop μ-loop
 element-copy-out-if2 c = full-inside _ _ (c .before .before .before .before .before .before .pre) (c .before .before .before .before .before .first .ensures) (c .before .before .before .loop .inv) (c .before .before .loop-test .taken)

@@ -2,7 +2,7 @@
 use mathlib.Core.Path.{_≡_}
 use mathlib.Core.Bool.{Bool, true, false, not, _&&_, _||_}
 use mathlib.Core.List.{List, [], _∷_}
-use Prim.Native.Nat.{ℕ, zero, suc}
+use Prim.Native.Nat.{ℕ}
 use lib.Dec.{eqb}
 use lib.ListN.{getD}
 use Rattle.text.specs.Reading.{Text, Out, done}
@@ -15,7 +15,9 @@ use Rattle.manifest.specs.laws.Table.{Line, lines, kindAt}
 use Rattle.manifest.specs.laws.Walk.{from}
 use Rattle.members.specs.declared.Walk.{Walk}
 use Rattle.members.specs.declared.Known.{Known}
-use Rattle.members.specs.laws.Flaw.{sought, lineAt, valueKind, LineOf}
+use Rattle.members.specs.laws.Flaw.{sought}
+use Rattle.table.specs.Table.{lineAt, valueKind}
+use Rattle.table.specs.laws.Looking.{LineOf}
 
 -- something was read
 pub record Reads {A : Type 0} (o : Out A) : Type 0 where
@@ -51,11 +53,6 @@ pub record MemberTold (o : ℕ) (m : Known) (x : Text × Tree) (n : ℕ) : Type 
 -- the members of an object of kind o
 pub record MembersTold (o : ℕ) (w : Walk) (xs : List (Text × Tree)) (n : ℕ) : Type 0 where
   pub over : Over w n (from (sought false) o (members xs) lines) (from (sought true) o (members xs) lines)
-
--- f of some number below n
-unfoldable pub some : (ℕ → Bool) → ℕ → Bool
-some f zero = false
-some f (suc n) = some f n || f n
 
 -- what is twice in the values of one known member, if one was seen before
 unfoldable pub twices : Bool → Line → List Tree → Bool

@@ -1,63 +1,68 @@
--- `merge::merge` meets its contract: the output memories are set to zeros first, the work memories last, and both keep their lengths. Assumes nothing.
-use Rattle.merge.specs.laws.Ended.{blank, ended-alike, emptied-alike}
-use mathlib.Core.Path.{_∙_}
+-- `merge::merge` meets its contract: what is settled of what was told and fits is the merge (`settled-is`). Assumes nothing.
+use Rattle.merge.specs.laws.Ended.{with-outcome, settled-is}
+use Rattle.merge.specs.laws.Told.{held-length}
+use Rattle.graphs.specs.Links.{Link}
+use mathlib.Core.Path.{sym}
+use lib.IntN.{pos}
 use Rattle.merge.proofs.merge.Statement.{statement}
 use Rattle.merge.proofs.merge.Tie as tie
 
-fill-bytes-requires : tie.Need-fill-bytes-requires
-fill-bytes-requires c κs = tt
+read-requires : tie.Need-read-requires
+read-requires c κs = tt
 
-clear-times-requires : tie.Need-clear-times-requires
-clear-times-requires c κs = tt
+fitted-requires : tie.Need-fitted-requires
+fitted-requires c κs = tt
 
-fill-bytes-requires-2 : tie.Need-fill-bytes-requires-2
-fill-bytes-requires-2 c κs = tt
+slice-aggregate-settle : tie.Need-slice-aggregate-settle
+slice-aggregate-settle c = sym (held-length (c .before .before .before .before .before .before .before .before .before .before .before .before .before .before .before .before .args .manifest .now) (c .before .before .before .before .before .before .before .before .before .before .before .before .before .before .before .before .args .sheet .now) (λ (l : Link). l .a) 0 (c .before .before .before .read .ensures .1 .1 .0))
 
-fill-steps-requires : tie.Need-fill-steps-requires
-fill-steps-requires c κs = tt
+slice-aggregate-settle-2 : tie.Need-slice-aggregate-settle-2
+slice-aggregate-settle-2 c = sym (held-length (c .before .before .before .before .before .before .before .before .before .before .before .before .before .before .before .before .before .args .manifest .now) (c .before .before .before .before .before .before .before .before .before .before .before .before .before .before .before .before .before .args .sheet .now) (λ (l : Link). l .x) (pos 0) (c .before .before .before .before .read .ensures .1 .1 .1 .0))
 
-judge-requires : tie.Need-judge-requires
-judge-requires c κs = blank (c .before .before .before .before .before .before .before .before .before .before .before .before .before .before .before .before .before .before .before .before .before .before .before .before .before .before .before .before .before .args .machines .now) (c .before .before .before .before .before .before .before .before .before .before .before .before .before .before .before .before .before .before .before .before .before .before .before .before .before .before .before .before .before .args .times .now) (c .before .before .before .before .before .before .before .before .before .before .before .before .before .before .before .before .before .before .before .before .before .before .before .before .before .before .before .before .before .args .kinds .now) (c .before .before .before .before .before .before .before .before .before .before .before .before .before .before .before .before .before .before .before .before .before .before .before .before .before .before .before .before .before .args .steps .now) (c .before .before .before .before .before .before .before .before .before .before .before .before .before .before .before .before .before .before .before .before .fill-bytes .ensures) (c .before .before .before .before .before .before .before .before .before .before .before .before .before .before .before .before .clear-times .ensures) (c .before .before .before .before .before .before .before .before .before .before .before .before .before .fill-bytes2 .ensures) (c .before .before .before .before .before .before .before .before .before .fill-steps .ensures)
+slice-aggregate-settle-3 : tie.Need-slice-aggregate-settle-3
+slice-aggregate-settle-3 c = sym (held-length (c .before .before .before .before .before .before .before .before .before .before .before .before .before .before .before .before .before .before .args .manifest .now) (c .before .before .before .before .before .before .before .before .before .before .before .before .before .before .before .before .before .before .args .sheet .now) (λ (l : Link). l .b) 0 (c .before .before .before .before .before .read .ensures .1 .1 .1 .1 .0))
 
-clear-work-requires : tie.Need-clear-work-requires
-clear-work-requires c κs = tt
+slice-aggregate-settle-4 : tie.Need-slice-aggregate-settle-4
+slice-aggregate-settle-4 c = sym (held-length (c .before .before .before .before .before .before .before .before .before .before .before .before .before .before .before .before .before .before .before .args .manifest .now) (c .before .before .before .before .before .before .before .before .before .before .before .before .before .before .before .before .before .before .before .args .sheet .now) (λ (l : Link). l .y) (pos 0) (c .before .before .before .before .before .before .read .ensures .1 .1 .1 .1 .1))
+
+settle-requires : tie.Need-settle-requires
+settle-requires c κs = tt
 
 same-length : tie.Need-same-length
-same-length c = c .before .before .before .before .before .before .before .before .before .before .before .before .before .before .before .before .before .before .before .before .machines2 .given ∙ c .before .before .before .before .before .before .before .before .before .before .before .before .before .before .before .before .before .before .before .before .before .before .before .before .before .before .before .before .before .before .before .before .before .before .before .before .before .before .before .before .before .machines .given
+same-length c = c .before .before .before .before .before .before .before .before .before .before .before .machines .given
 
 same-length-2 : tie.Need-same-length-2
-same-length-2 c = c .before .before .before .before .before .before .before .before .before .before .before .before .before .before .before .before .before .before .times2 .given ∙ c .before .before .before .before .before .before .before .before .before .before .before .before .before .before .before .before .before .before .before .before .before .before .before .before .before .before .before .before .before .before .before .before .before .before .before .before .before .times .given
+same-length-2 c = c .before .before .before .before .before .before .before .before .before .times .given
 
 same-length-3 : tie.Need-same-length-3
-same-length-3 c = c .before .before .before .before .before .before .before .before .before .before .before .before .before .before .before .before .before .kinds2 .given ∙ c .before .before .before .before .before .before .before .before .before .before .before .before .before .before .before .before .before .before .before .before .before .before .before .before .before .before .before .before .before .before .before .before .before .before .kinds .given
+same-length-3 c = c .before .before .before .before .before .before .before .before .kinds .given
 
 same-length-4 : tie.Need-same-length-4
-same-length-4 c = c .before .before .before .before .before .before .before .before .before .before .before .before .before .before .before .steps2 .given ∙ c .before .before .before .before .before .before .before .before .before .before .before .before .before .before .before .before .before .before .before .before .before .before .before .before .before .before .before .before .before .before .steps .given
+same-length-4 c = c .before .before .before .before .before .before .steps .given
 
 same-length-5 : tie.Need-same-length-5
-same-length-5 c = c .before .before .before .before .matrix2 .given ∙ c .before .before .before .before .before .before .before .before .before .before .before .before .before .matrix .given
+same-length-5 c = c .before .before .before .before .matrix .given
 
 same-length-6 : tie.Need-same-length-6
-same-length-6 c = c .before .before .readings2 .given ∙ c .before .before .before .before .before .before .before .before .before .before .before .readings .given
+same-length-6 c = c .before .before .readings .given
 
 same-length-7 : tie.Need-same-length-7
-same-length-7 c = c .before .clocks2 .given ∙ c .before .before .before .before .before .before .before .before .before .before .clocks .given
+same-length-7 c = c .before .clocks .given
 
 returns : tie.Need-returns
-returns c = let e = ended-alike (c .before .before .before .before .before .before .before .before .before .before .before .before .before .before .before .before .before .before .before .before .before .before .before .before .before .before .before .before .before .before .before .before .before .before .before .before .before .before .before .before .before .before .before .before .before .before .before .before .before .before .before .args .machines .now) (c .before .before .before .before .before .before .before .before .before .before .before .before .before .before .before .before .before .before .before .before .before .before .before .before .before .before .before .before .before .before .before .before .before .before .before .before .before .before .before .before .before .before .before .before .before .before .before .before .before .before .before .args .times .now) (c .before .before .before .before .before .before .before .before .before .before .before .before .before .before .before .before .before .before .before .before .before .before .before .before .before .before .before .before .before .before .before .before .before .before .before .before .before .before .before .before .before .before .before .before .before .before .before .before .before .before .before .args .kinds .now) (c .before .before .before .before .before .before .before .before .before .before .before .before .before .before .before .before .before .before .before .before .before .before .before .before .before .before .before .before .before .before .before .before .before .before .before .before .before .before .before .before .before .before .before .before .before .before .before .before .before .before .before .args .steps .now) (c .before .before .before .before .before .before .before .before .before .before .before .before .before .before .before .before .before .before .before .before .before .before .before .before .before .before .before .before .before .before .before .before .before .before .before .before .before .before .before .before .before .before .before .before .before .before .before .before .before .before .before .args .manifest .now) (c .before .before .before .before .before .before .before .before .before .before .before .before .before .before .before .before .before .before .before .before .before .before .before .before .before .before .before .before .before .before .before .before .before .before .before .before .before .before .before .before .before .before .before .before .before .before .before .before .before .before .before .args .sheet .now) (c .before .before .before .before .before .before .before .before .before .before .before .before .before .before .before .before .before .before .before .before .before .before .before .before .before .before .before .before .before .before .before .before .before .before .before .before .before .before .before .before .before .before .before .before .before .before .before .before .before .before .before .args .matrix .now) (c .before .before .before .before .before .before .before .before .before .before .before .before .before .before .before .before .before .before .before .before .before .before .before .before .before .before .before .before .before .before .before .before .before .before .before .before .before .before .before .before .before .before .before .before .before .before .before .before .before .before .before .args .readings .now) (c .before .before .before .before .before .before .before .before .before .before .before .before .before .before .before .before .before .before .before .before .before .before .before .before .before .before .before .before .before .before .before .before .before .before .before .before .before .before .before .before .before .before .before .before .before .before .before .before .before .before .before .args .clocks .now) (c .before .before .before .before .before .before .before .before .before .before .before .before .before .before .before .before .before .before .before .before .before .before .before .before .before .before .before .before .before .before .before .before .before .before .before .before .before .before .before .before .before .before .fill-bytes .ensures) (c .before .before .before .before .before .before .before .before .before .before .before .before .before .before .before .before .before .before .before .before .before .before .before .before .before .before .before .before .before .before .before .before .before .before .before .before .before .before .clear-times .ensures) (c .before .before .before .before .before .before .before .before .before .before .before .before .before .before .before .before .before .before .before .before .before .before .before .before .before .before .before .before .before .before .before .before .before .before .before .fill-bytes2 .ensures) (c .before .before .before .before .before .before .before .before .before .before .before .before .before .before .before .before .before .before .before .before .before .before .before .before .before .before .before .before .before .before .before .fill-steps .ensures) (c .before .before .before .before .before .before .before .before .before .before .before .before .before .before .before .before .before .before .before .before .before .judge .ensures) in
-    let w = emptied-alike (c .before .before .before .before .before .before .before .before .before .before .before .before .before .matrix .given) (c .before .before .before .before .before .before .before .before .before .before .before .readings .given) (c .before .before .before .before .before .before .before .before .before .before .clocks .given) (c .before .before .before .before .before .clear-work .ensures) in
-    (e .answer-is, (e .machines-are, (e .times-are, (e .kinds-are, (e .steps-are, (w .matrix-is, (w .readings-are, w .clocks-are)))))))
+returns c = with-outcome (settled-is (c .before .before .before .before .before .before .before .before .before .before .before .before .before .before .before .before .before .before .before .before .before .before .before .before .before .before .before .before .before .before .before .before .before .before .before .before .before .before .before .args .manifest .now) (c .before .before .before .before .before .before .before .before .before .before .before .before .before .before .before .before .before .before .before .before .before .before .before .before .before .before .before .before .before .before .before .before .before .before .before .before .before .before .before .args .sheet .now) (c .before .before .before .before .before .before .before .before .before .before .before .before .before .before .before .before .before .before .before .before .before .before .before .before .before .before .before .before .before .before .before .before .before .before .before .before .before .before .before .args .machines .now) (c .before .before .before .before .before .before .before .before .before .before .before .before .before .before .before .before .before .before .before .before .before .before .before .before .before .before .before .before .before .before .before .before .before .before .before .before .before .before .before .args .times .now) (c .before .before .before .before .before .before .before .before .before .before .before .before .before .before .before .before .before .before .before .before .before .before .before .before .before .before .before .before .before .before .before .before .before .before .before .before .before .before .before .args .kinds .now) (c .before .before .before .before .before .before .before .before .before .before .before .before .before .before .before .before .before .before .before .before .before .before .before .before .before .before .before .before .before .before .before .before .before .before .before .before .before .before .before .args .steps .now) (c .before .before .before .before .before .before .before .before .before .before .before .before .before .before .before .before .before .before .before .before .before .before .before .before .before .before .before .before .before .before .before .before .before .before .before .before .before .before .before .args .matrix .now) (c .before .before .before .before .before .before .before .before .before .before .before .before .before .before .before .before .before .before .before .before .before .before .before .before .before .before .before .before .before .before .before .before .before .before .before .before .before .before .before .args .readings .now) (c .before .before .before .before .before .before .before .before .before .before .before .before .before .before .before .before .before .before .before .before .before .before .before .before .before .before .before .before .before .before .before .before .before .before .before .before .before .before .before .args .clocks .now) (c .before .before .before .before .before .before .before .before .before .before .before .before .before .before .before .before .before .before .before .before .before .before .before .before .before .before .read .ensures .1 .0) _ _ _ _ (c .before .before .before .before .before .before .before .before .before .before .before .before .before .before .before .before .before .before .before .before .before .before .before .before .before .before .read .ensures .1 .1 .0) (c .before .before .before .before .before .before .before .before .before .before .before .before .before .before .before .before .before .before .before .before .before .before .before .before .before .before .read .ensures .1 .1 .1 .0) (c .before .before .before .before .before .before .before .before .before .before .before .before .before .before .before .before .before .before .before .before .before .before .before .before .before .before .read .ensures .1 .1 .1 .1 .0) (c .before .before .before .before .before .before .before .before .before .before .before .before .before .before .before .before .before .before .before .before .before .before .before .before .before .before .read .ensures .1 .1 .1 .1 .1) (c .before .before .before .before .before .before .before .before .before .before .before .before .before .before .before .before .before .before .before .before .before .before .before .before .before .before .read .ensures .0) (c .before .before .before .before .before .before .before .before .before .before .before .before .before .before .before .before .before .before .before .before .before .before .before .before .before .fitted .ensures)) (c .before .before .before .before .before .before .before .before .before .before .before .before .settle .ensures)
 
 pub merge-spec : {M : Type 1} → statement M
 merge-spec =
     tie.close
     (tie.spec
-    fill-bytes-requires
-    clear-times-requires
-    fill-bytes-requires-2
-    fill-steps-requires
-    judge-requires
-    clear-work-requires
+    read-requires
+    fitted-requires
+    slice-aggregate-settle
+    slice-aggregate-settle-2
+    slice-aggregate-settle-3
+    slice-aggregate-settle-4
+    settle-requires
     same-length
     same-length-2
     same-length-3

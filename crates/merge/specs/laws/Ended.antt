@@ -1,19 +1,17 @@
--- How a merge ends: what is answered and left in the memories, for each ending. Assumes nothing.
+-- How a merge ends: what is settled of what fits is the merge, for each ending. Assumes nothing.
 use mathlib.Core.Path.{_≡_, refl, sym, ap, subst, _∙_}
-use mathlib.Core.Bool.{Bool, true, false, _&&_}
-use mathlib.Core.List.{List, _++_, map}
-use Prim.Native.Nat.{ℕ, _+_, _-_, _≤_, _<_, min}
+use mathlib.Core.Bool.{Bool, true, false}
+use mathlib.Core.List.{List, map}
+use Prim.Native.Nat.{ℕ, _-_, _≤_, _<_}
 use native.Mathlib.Omega.{arith}
-use lib.Dec.{eqb, leb}
+use lib.Dec.{eqb}
 use lib.IntN.{ℤ, pos}
-use lib.ListN.{length, getD, take, drop, replicate, length-append}
-use borrow.Author.Tests.{leb-true}
+use lib.ListN.{length, take, replicate}
 use Rattle.text.specs.Reading.{Text, pick}
-use Rattle.numbers.specs.Numbers.{clocks}
 use Rattle.sheet.specs.declared.Table.{Table}
 use Rattle.reader.specs.Reader.{tableOf, namesOf}
 use Rattle.meant.specs.Meant.{timelineOf}
-use Rattle.clocks.specs.Answers.{Filled, filled}
+use Rattle.clocks.specs.Answers.{Room as ClocksRoom, Filled, filled}
 use Rattle.graphs.specs.Graphs.{World}
 use Rattle.merged.specs.declared.Trace.the-variants.{Nothing, On}
 use Rattle.merged.specs.declared.Answer.{Answer}
@@ -23,8 +21,7 @@ use Rattle.merged.specs.Timeline.{traceOf}
 use Rattle.merged.specs.Merged.{Room, Outcome, padded, refusedBy, merged}
 use Rattle.checks.specs.Table.{factsBy}
 use Rattle.checks.specs.Machines.{machineTable}
-use Rattle.lines.specs.Lines.{clockBy, eventsAt, over, reach}
-use Rattle.placed.specs.declared.Given.{Given}
+use Rattle.lines.specs.Lines.{clockBy, eventsAt}
 use Rattle.placed.specs.Placed.{worldIn, cells}
 use Rattle.known.specs.declared.Known.{Known}
 use Rattle.known.specs.declared.Told.{Told}
@@ -33,147 +30,68 @@ use Rattle.known.specs.Known.{factTable, linksIn, told}
 use Rattle.joins.specs.Joined.{Small, roomyFor, worldBy, answersBy, acceptedWith}
 use Rattle.joins.specs.Ends.{by-room, accepted-is, machine-small, machines-counted, files-counted, small}
 use Rattle.joins.specs.laws.Arrays.{padded-front}
+use Rattle.answered.specs.Answered.{machinesIn, eventsIn, summed}
+use Rattle.settled.specs.Settled.{fittedIn, settledIn}
+use Rattle.settled.specs.laws.Fits.{Long, long-is}
 use Rattle.merge.specs.Memories.{roomOf}
 use Rattle.merge.specs.laws.Answers.{Answered, Timed}
-use Rattle.merge.specs.laws.Fronts.{zeros-again, zeros-length, over-zeros, timed-is}
+use Rattle.merge.specs.laws.Fronts.{machines-same, marked-same, timed-is}
 use Rattle.merge.specs.laws.Told.{refused-so, Acceptance, accepted-so, sources-are, at-is, events-are, machines-are, files-are, trace-is, world-is}
-use Rattle.merge.specs.laws.Marks.{Markable, Marked}
 
--- ---- zeros
+-- ---- a refusal
 
--- the output memories hold zeros alone
-pub record Blank (machines : List ℕ) (times : List ℤ) (kinds steps : List ℕ) : Type 0 where
-  pub machines-zero : machines ≡ replicate (length machines) 0
-  pub times-zero : times ≡ replicate (length times) (pos 0)
-  pub kinds-zero : kinds ≡ replicate (length kinds) 0
-  pub steps-zero : steps ≡ replicate (length steps) 0
-
--- the work memories hold so many zeros
-pub record Emptied (nx nr nc : ℕ) (matrix : List ℕ) (readings : List ℤ) (clocks : List ℕ) : Type 0 where
-  pub matrix-is : matrix ≡ replicate nx 0
-  pub readings-are : readings ≡ replicate nr (pos 0)
-  pub clocks-are : clocks ≡ replicate nc 0
-
--- a merge has ended so: what is answered, and what the output memories hold
-pub record Ended (o : Outcome) (r : Answer) (machines : List ℕ) (times : List ℤ) (kinds steps : List ℕ) : Type 0 where
-  pub answer-is : r ≡ o .answer
-  pub machines-are : machines ≡ o .machines
-  pub times-are : times ≡ o .times
-  pub kinds-are : kinds ≡ o .kinds
-  pub steps-are : steps ≡ o .steps
-
--- what an accepted merge answers
-unfoldable pub summed : Given → Answer
-summed g = Merged (record { files = g .files; machines = g .machines; events = g .events; trace = pick (eqb (g .files) 0) Nothing (On (g .trace)) })
-
--- a memory that was set to zeros holds zeros, and is as long as it was
-module _ (m : List ℕ) (t : List ℤ) (k s : List ℕ) {m' : List ℕ} {t' : List ℤ} {k' s' : List ℕ} where
-  pub blank : m' ≡ replicate (length m) 0 → t' ≡ replicate (length t) (pos 0) → k' ≡ replicate (length k) 0 → s' ≡ replicate (length s) 0 → Blank m' t' k' s'
-  blank em et ek es =
-      record {
-        machines-zero = zeros-again 0 (length m) em;
-        times-zero = zeros-again (pos 0) (length t) et;
-        kinds-zero = zeros-again 0 (length k) ek;
-        steps-zero = zeros-again 0 (length s) es;
-      }
-
-  -- so the merge ends as in the memories that were lent
-  pub ended-alike : (a : Text) (b : List ℕ) (x : List ℕ) (r : List ℤ) (c : List ℕ) → m' ≡ replicate (length m) 0 → t' ≡ replicate (length t) (pos 0) → k' ≡ replicate (length k) 0 → s' ≡ replicate (length s) 0
-      → {w : Answer} {ma : List ℕ} {ti : List ℤ} {ki st : List ℕ} → Ended (merged a b (roomOf m' t' k' s' x r c)) w ma ti ki st → Ended (merged a b (roomOf m t k s x r c)) w ma ti ki st
-  ended-alike a b x r c em et ek es {w} {ma} {ti} {ki} {st} h =
-      let e : roomOf m' t' k' s' x r c ≡ roomOf m t k s x r c = λ i.
-      record {
-        machines = zeros-length 0 (length m) em i;
-        times = zeros-length (pos 0) (length t) et i;
-        kinds = zeros-length 0 (length k) ek i;
-        steps = zeros-length 0 (length s) es i;
-        matrix = length x;
-        readings = length r;
-        clocks = length c;
-      } in
-      subst (λ (q : Room). Ended (merged a b q) w ma ti ki st) e h
-
--- the work memories are as long as they were
-pub emptied-alike : {nx nr nc mx mr mc : ℕ} {x : List ℕ} {r : List ℤ} {c : List ℕ} → nx ≡ mx → nr ≡ mr → nc ≡ mc → Emptied nx nr nc x r c → Emptied mx mr mc x r c
-emptied-alike ex er ec h =
-    record {
-      matrix-is = h .matrix-is ∙ ap (λ (n : ℕ). replicate {A = ℕ} n 0) ex;
-      readings-are = h .readings-are ∙ ap (λ (n : ℕ). replicate n (pos 0)) er;
-      clocks-are = h .clocks-are ∙ ap (λ (n : ℕ). replicate {A = ℕ} n 0) ec;
-    }
-
--- a refusal leaves zeros
-module _ {m : List ℕ} {t : List ℤ} {k s : List ℕ} (z : Blank m t k s) (x : List ℕ) (r : List ℤ) (c : List ℕ) where
-  ended-by : {o : Outcome} {n : ℕ} → o ≡ refusedBy n (roomOf m t k s x r c) → Ended o (Refused n) m t k s
-  unfolding refusedBy
-  ended-by e =
-      record {
-        answer-is = sym (ap (λ (o : Outcome). o .answer) e);
-        machines-are = z .machines-zero ∙ sym (ap (λ (o : Outcome). o .machines) e);
-        times-are = z .times-zero ∙ sym (ap (λ (o : Outcome). o .times) e);
-        kinds-are = z .kinds-zero ∙ sym (ap (λ (o : Outcome). o .kinds) e);
-        steps-are = z .steps-zero ∙ sym (ap (λ (o : Outcome). o .steps) e);
-      }
-
-  -- 1 to 37
-  pub refused-ended : (a : Text) (b : List ℕ) {n : ℕ} → told a b ≡ ToldRefused n → Ended (merged a b (roomOf m t k s x r c)) (Refused n) m t k s
-  refused-ended a b {n} e = ended-by (refused-so a b (roomOf m t k s x r c) n e)
-
+module _ (s : Text) (b : List ℕ) (room : Room) where
   -- 38
-  pub crowded-ended : (a : Text) (b : List ℕ) {n : Known} → told a b ≡ Accepted n → roomyFor (n .sources) (n .given .events) (roomOf m t k s x r c) ≡ false
-      → Ended (merged a b (roomOf m t k s x r c)) (Refused 38) m t k s
-  crowded-ended a b {n} e q =
-      let h : Acceptance a b n = accepted-so a b n e in
-      ended-by (by-room (h .tables) (h .none) (roomOf m t k s x r c) ((λ i. roomyFor (sym (sources-are h) i) (sym (events-are h) i) (roomOf m t k s x r c)) ∙ q))
+  crowded : (k : Known) → told s b ≡ Accepted k → roomyFor (k .sources) (k .given .events) room ≡ false → merged s b room ≡ refusedBy 38 room
+  crowded k e q =
+      let h : Acceptance s b k = accepted-so s b k e in
+      by-room (h .tables) (h .none) room ((λ i. roomyFor (sym (sources-are h) i) (sym (events-are h) i) room) ∙ q)
 
--- ---- room
+  of-short : (k : Known) → told s b ≡ Accepted k → (x : Bool) → roomyFor (k .sources) (k .given .events) room ≡ x → {n : ℕ} → pick x (Accepted k) (ToldRefused 38) ≡ ToldRefused n → merged s b room ≡ refusedBy n room
+  unfolding pick
+  of-short k q true y {n} e = absurd (let z : _≡_ {A = ℕ} 0 1 = cc in omega arith)
+  of-short k q false y {n} e = crowded k q y ∙ (let z : _≡_ {A = ℕ} 38 n = cc in ap (λ (j : ℕ). refusedBy j room) z)
 
--- what 38 lets through is long enough
-pub record Long (sources events : ℕ) (room : Room) : Type 0 where
-  pub machines : sources ≤ room .machines
-  pub times : events ≤ room .times
-  pub kinds : events ≤ room .kinds
-  pub steps : events ≤ room .steps
-  pub matrix : 50176 ≤ room .matrix
-  pub readings : events ≤ room .readings
-  pub clocks : events ≤ room .clocks
+  of-told : (o : Told) → told s b ≡ o → {n : ℕ} → fittedIn room o ≡ ToldRefused n → merged s b room ≡ refusedBy n room
+  unfolding fittedIn
+  of-told (ToldRefused m) q {n} e = refused-so s b room m q ∙ (let z : m ≡ n = cc in ap (λ (j : ℕ). refusedBy j room) z)
+  of-told (Accepted k) q e = of-short k q (roomyFor (k .sources) (k .given .events) room) refl e
 
-both : (a b : Bool) → a && b ≡ true → (a ≡ true) × (b ≡ true)
-both true b e = (refl, e)
-both false b e = absurd (let z : _≡_ {A = Bool} true false = sym e in let y : _≡_ {A = ℕ} 0 1 = cc in omega arith)
+-- ---- acceptance
 
-pub long-is : (sources events : ℕ) (room : Room) → roomyFor sources events room ≡ true → Long sources events room
-unfolding roomyFor
-long-is sources events room e =
-    let (a, b) = both _ _ e in
-    let (c, d) = both _ _ a in
-    let (f, g) = both _ _ c in
-    let (h, i) = both _ _ f in
-    let (j, k) = both _ _ h in
-    let (l, m) = both _ _ j in
-    record {
-      machines = leb-true _ _ l;
-      times = leb-true _ _ m;
-      kinds = leb-true _ _ k;
-      steps = leb-true _ _ i;
-      matrix = leb-true 50176 _ g;
-      readings = leb-true _ _ d;
-      clocks = leb-true _ _ b;
-    }
+-- what was told fits
+pub record Fitting (s : Text) (b : List ℕ) (room : Room) (k : Known) : Type 0 where
+  pub acceptance : Acceptance s b k
+  pub roomy : roomyFor (k .sources) (k .given .events) room ≡ true
 
--- in two steps: the output memories, then the work memories
-pub roomy-so : {o : Told} {k : Known} → o ≡ Accepted k → (room : Room) {fit r : Bool}
-    → fit ≡ (leb (k .sources) (room .machines) && leb (k .given .events) (room .times) && leb (k .given .events) (room .kinds) && leb (k .given .events) (room .steps))
-    → r ≡ (fit && leb 50176 (room .matrix) && leb (k .given .events) (room .readings) && leb (k .given .events) (room .clocks))
-    → r ≡ roomyFor (k .sources) (k .given .events) room
-unfolding roomyFor
-roomy-so {o} {k} e room ef er = er ∙ ap (λ (f : Bool). f && leb 50176 (room .matrix) && leb (k .given .events) (room .readings) && leb (k .given .events) (room .clocks)) ef
+module _ (s : Text) (b : List ℕ) (room : Room) where
+  of-long : (l k : Known) → told s b ≡ Accepted l → (x : Bool) → roomyFor (l .sources) (l .given .events) room ≡ x → pick x (Accepted l) (ToldRefused 38) ≡ Accepted k → Fitting s b room k
+  unfolding pick
+  of-long l k q true y e =
+      let z : l ≡ k = cc in
+      subst (Fitting s b room) z (record { acceptance = accepted-so s b l q; roomy = y })
+  of-long l k q false y e = absurd (let z : _≡_ {A = ℕ} 0 1 = cc in omega arith)
 
--- ---- an accepted merge
+  of-all : (o : Told) (k : Known) → told s b ≡ o → fittedIn room o ≡ Accepted k → Fitting s b room k
+  unfolding fittedIn
+  of-all (ToldRefused m) k q e = absurd (let z : _≡_ {A = ℕ} 0 1 = cc in omega arith)
+  of-all (Accepted l) k q e = of-long l k q (roomyFor (l .sources) (l .given .events) room) refl e
 
-module _ {s : Text} {b : List ℕ} {k : Known} (h : Acceptance s b k) where
+  pub fitting : (k : Known) → fittedIn room (told s b) ≡ Accepted k → Fitting s b room k
+  fitting k e = of-all (told s b) k refl e
+
+module _ (s : Text) (b m : List ℕ) (ti : List ℤ) (ki st x : List ℕ) (re : List ℤ) (c : List ℕ) {k : Known} (f : Fitting s b (roomOf m ti ki st x re c) k) where
+  abbrev room : Room
+  room = roomOf m ti ki st x re c
+
+  abbrev h : Acceptance s b k
+  h = f .acceptance
+
   abbrev t : List ℕ
   t = factTable s b
+
+  long : Long (k .sources) (k .given .events) room
+  long = long-is _ _ _ (f .roomy)
 
   -- the machines of the sources
   machines-front : take (k .sources) (machineTable t) ≡ machinesOf (factsBy t)
@@ -182,53 +100,65 @@ module _ {s : Text} {b : List ℕ} {k : Known} (h : Acceptance s b k) where
       let d : k .sources ≡ h .p .sources .count - 0 = omega (arith, sources-are h) in
       ap (λ (n : ℕ). take n (machineTable t)) d ∙ padded-front 0 32 (h .p .sources .count) (machinesOf (factsBy t)) (sym (machines-counted (h .tables) (h .none)))
 
-  machines-within : k .sources ≤ length (machineTable t)
-  unfolding machineTable
-  machines-within =
-      let e = length-append (machinesOf (factsBy t)) (replicate (32 - length (machinesOf (factsBy t))) 0) in
-      let c = machines-counted (h .tables) (h .none) in
-      omega (arith, sources-are h)
+  machines-all : machinesIn t (k .sources) (length m) ≡ machinesOf (factsBy t)
+  machines-all =
+      let y : Small (h .p) = small (h .tables) in
+      machines-same t (k .sources) (length m) (omega (arith, y .sources, sources-are h)) (long .machines) (machine-small (h .tables) (h .none)) ∙ machines-front
 
   -- the answer
   answer-is : summed (k .given) ≡ Merged (record { files = h .p .files; machines = machineCount (factsBy t); events = h .p .events .count; trace = traceOf (factsBy t) (timelineOf s (tableOf s) (namesOf s)) })
   unfolding summed traceOf
   answer-is = λ i. Merged (record { files = files-are h i; machines = machines-are h i; events = events-are h i; trace = pick (eqb ((files-are h ∙ sym (files-counted (h .tables) (h .none))) i) 0) Nothing (On (record { 0 = trace-is h i })) })
 
-  module _ (m : List ℕ) (ti : List ℤ) (ki st : List ℕ) (x : List ℕ) (re : List ℤ) (c : List ℕ) (roomy : roomyFor (k .sources) (k .given .events) (roomOf m ti ki st x re c) ≡ true) where
-    long : Long (k .sources) (k .given .events) (roomOf m ti ki st x re c)
-    long = long-is _ _ _ roomy
+  -- the events' answers
+  abbrev wide : ClocksRoom
+  wide = record { times = length ti; kinds = length ki; steps = length st; matrix = 50176 }
 
-    pub markable : {u : List ℕ} → u ≡ t → Markable u k (length m)
-    markable e =
-        let f : Small (h .p) = small (h .tables) in
-        subst (λ (u : List ℕ). Markable u k (length m)) (sym e) (record { within = machines-within; room = long .machines; small = machine-small (h .tables) (h .none); events = omega (arith, f .events, events-are h) })
+  events-in : (w : World) → eventsIn t b k w c re (record { times = length ti; kinds = length ki; steps = length st; matrix = cells x }) ≡ filled w (map (clockBy t (machineTable t)) (eventsAt b (k .at) (k .given .events))) (map (λ e. e .reading) (eventsAt b (k .at) (k .given .events))) wide
+  events-in w =
+      let y : Small (h .p) = small (h .tables) in
+      let n : k .given .events ≤ 0xffffffff = omega (arith, y .events, events-are h) in
+      let z : cells x ≡ 50176 = omega (arith, long .matrix) in
+      λ i. filled w (marked-same (clockBy t (machineTable t)) b (k .at) (k .given .events) (length c) (length re) c n (long .clocks) (long .readings) i)
+      (marked-same (λ e. e .reading) b (k .at) (k .given .events) (length c) (length re) re n (long .clocks) (long .readings) i)
+      (record { times = length ti; kinds = length ki; steps = length st; matrix = z i })
 
-    -- the events' answers
-    pub timed : {u : List ℕ} {m' c' : List ℕ} {re' : List ℤ} → u ≡ t → Marked u b k m c re m' c' re'
-        → (a : List ℕ) (xs : List ℤ) (cs : List ℕ) (ys : List ℤ) → worldIn (k .given) a xs cs ys ≡ worldBy s b (tableOf s) (namesOf s) t (h .p)
-        → {ti' : List ℤ} {ki' st' : List ℕ} → Answered (filled (worldIn (k .given) a xs cs ys) (take (k .given .events) c') (take (k .given .events) re') (record { times = length ti; kinds = length ki; steps = length st; matrix = cells x })) ti' ki' st'
-        → Timed (answersBy s b (tableOf s) (namesOf s) t (h .p)) (length ti) (length ki) (length st) ti' ki' st'
-    timed {u} {m'} {c'} {re'} eu mk a xs cs ys ew {ti'} {ki'} {st'} q =
-        let n : k .given .events ≡ h .p .events .count - 0 = omega (arith, events-are h) in
-        let z : cells x ≡ 50176 = omega (arith, long .matrix) in
-        timed-is s b (tableOf s) (namesOf s) t (h .p) refl (length ti) (length ki) (length st) (omega (arith, long .times, events-are h)) (omega (arith, long .kinds, events-are h)) (omega (arith, long .steps, events-are h)) c re (omega (arith, long .clocks, events-are h)) (omega (arith, long .readings, events-are h)) c' re'
-        (mk .clocks-are ∙ (λ i. over (map (clockBy (eu i) (machineTable (eu i))) (eventsAt b (at-is h i) (reach (events-are h i) (length c) (length re)))) c))
-        (mk .readings-are ∙ (λ i. over (map (λ e. e .reading) (eventsAt b (at-is h i) (reach (events-are h i) (length c) (length re)))) re))
-        (subst (λ (f : Filled). Answered f ti' ki' st') (λ i. filled (ew i) (take (n i) c') (take (n i) re') (record { times = length ti; kinds = length ki; steps = length st; matrix = z i })) q)
+  timed : {u : List ℕ} → u ≡ t → {w : World} → w ≡ worldBy s b (tableOf s) (namesOf s) t (h .p)
+      → {ti' : List ℤ} {ki' st' : List ℕ} → Answered (eventsIn u b k w c re (record { times = length ti; kinds = length ki; steps = length st; matrix = cells x })) ti' ki' st'
+      → Timed (answersBy s b (tableOf s) (namesOf s) t (h .p)) (length ti) (length ki) (length st) ti' ki' st'
+  timed {u} eu {w} ew {ti'} {ki'} {st'} q =
+      timed-is s b (tableOf s) (namesOf s) t (h .p) (length ti) (length ki) (length st) (omega (arith, long .times, events-are h)) (omega (arith, long .kinds, events-are h)) (omega (arith, long .steps, events-are h))
+      (subst (λ (o : Filled). Answered o ti' ki' st')
+      ((λ i. eventsIn (eu i) b k (ew i) c re (record { times = length ti; kinds = length ki; steps = length st; matrix = cells x }))
+      ∙ (events-in (worldBy s b (tableOf s) (namesOf s) t (h .p))
+      ∙ (λ i. filled (worldBy s b (tableOf s) (namesOf s) t (h .p)) (map (clockBy t (machineTable t)) (eventsAt b (at-is h i) (events-are h i))) (map (λ e. e .reading) (eventsAt b (at-is h i) (events-are h i))) wide)))
+      q)
 
-    pub accepted-ended : Blank m ti ki st → {u : List ℕ} {m' c' : List ℕ} {re' : List ℤ} → u ≡ t → Marked u b k m c re m' c' re'
-        → {r : Answer} {ti' : List ℤ} {ki' st' : List ℕ} → r ≡ summed (k .given)
-        → Timed (answersBy s b (tableOf s) (namesOf s) t (h .p)) (length ti) (length ki) (length st) ti' ki' st'
-        → Ended (merged s b (roomOf m ti ki st x re c)) r m' ti' ki' st'
-    unfolding acceptedWith
-    accepted-ended z {u} eu mk er ed =
-        let room : Room = roomOf m ti ki st x re c in
-        let y : roomyFor (h .p .sources .count) (h .p .events .count) room ≡ true = (λ i. roomyFor (sym (sources-are h) i) (sym (events-are h) i) room) ∙ roomy in
-        let o : merged s b room ≡ acceptedWith s b (tableOf s) (namesOf s) t (h .p) room = accepted-is (h .tables) (h .none) room y in
-        record {
-          answer-is = er ∙ (answer-is ∙ sym (ap (λ (q : Outcome). q .answer) o));
-          machines-are = mk .machines-are ∙ (over-zeros 0 (z .machines-zero) (ap (λ (v : List ℕ). take (k .sources) (machineTable v)) eu ∙ machines-front) ∙ sym (ap (λ (q : Outcome). q .machines) o));
-          times-are = ed .times-are ∙ sym (ap (λ (q : Outcome). q .times) o);
-          kinds-are = ed .kinds-are ∙ sym (ap (λ (q : Outcome). q .kinds) o);
-          steps-are = ed .steps-are ∙ sym (ap (λ (q : Outcome). q .steps) o);
-        }
+  accepted-ended : {u : List ℕ} → u ≡ t → (a : List ℕ) (xs : List ℤ) (cs : List ℕ) (ys : List ℤ) → worldIn (k .given) a xs cs ys ≡ worldBy s b (tableOf s) (namesOf s) t (h .p)
+      → settledIn u b a xs cs ys c re room (Accepted k) ≡ merged s b room
+  unfolding acceptedWith settledIn
+  accepted-ended {u} eu a xs cs ys ew =
+      let y : roomyFor (h .p .sources .count) (h .p .events .count) room ≡ true = (λ i. roomyFor (sym (sources-are h) i) (sym (events-are h) i) room) ∙ f .roomy in
+      let o : merged s b room ≡ acceptedWith s b (tableOf s) (namesOf s) t (h .p) room = accepted-is (h .tables) (h .none) room y in
+      let d = timed eu ew (record { times-are = refl; kinds-are = refl; steps-are = refl }) in
+      let e : machinesIn u (k .sources) (length m) ≡ machinesOf (factsBy t) = ap (λ (v : List ℕ). machinesIn v (k .sources) (length m)) eu ∙ machines-all in
+      (λ i. record { answer = answer-is i; machines = padded 0 (length m) (e i); times = d .times-are i; kinds = d .kinds-are i; steps = d .steps-are i }) ∙ sym o
+
+-- ---- what is settled of what fits is the merge
+
+-- an outcome for an equal one, beside what holds anyway
+pub with-outcome : {o v : Outcome} → o ≡ v → {r : Answer} {m : List ℕ} {ti : List ℤ} {ki st : List ℕ} {W : Type 0}
+    → (r ≡ o .answer) × ((m ≡ o .machines) × ((ti ≡ o .times) × ((ki ≡ o .kinds) × ((st ≡ o .steps) × W)))) → (r ≡ v .answer) × ((m ≡ v .machines) × ((ti ≡ v .times) × ((ki ≡ v .kinds) × ((st ≡ v .steps) × W))))
+with-outcome e {r} {m} {ti} {ki} {st} {W} h = subst (λ (q : Outcome). (r ≡ q .answer) × ((m ≡ q .machines) × ((ti ≡ q .times) × ((ki ≡ q .kinds) × ((st ≡ q .steps) × W))))) e h
+
+module _ (s : Text) (b m : List ℕ) (ti : List ℤ) (ki st x : List ℕ) (re : List ℤ) (c : List ℕ) {u : List ℕ} (eu : u ≡ factTable s b) (a : List ℕ) (xs : List ℤ) (cs : List ℕ) (ys : List ℤ)
+    (ea : a ≡ padded 0 288 (map (λ l. l .a) (linksIn s b))) (ex : xs ≡ padded (pos 0) 288 (map (λ l. l .x) (linksIn s b))) (ec : cs ≡ padded 0 288 (map (λ l. l .b) (linksIn s b))) (ey : ys ≡ padded (pos 0) 288 (map (λ l. l .y) (linksIn s b))) where
+  by-kind : (o : Told) → fittedIn (roomOf m ti ki st x re c) (told s b) ≡ o → settledIn u b a xs cs ys c re (roomOf m ti ki st x re c) o ≡ merged s b (roomOf m ti ki st x re c)
+  unfolding settledIn
+  by-kind (ToldRefused n) e = sym (of-told s b (roomOf m ti ki st x re c) (told s b) refl e)
+  by-kind (Accepted k) e =
+      let f : Fitting s b (roomOf m ti ki st x re c) k = fitting s b (roomOf m ti ki st x re c) k e in
+      accepted-ended s b m ti ki st x re c f eu a xs cs ys (world-is (f .acceptance) a xs cs ys ea ex ec ey)
+
+  pub settled-is : {o f : Told} → o ≡ told s b → f ≡ fittedIn (roomOf m ti ki st x re c) o → settledIn u b a xs cs ys c re (roomOf m ti ki st x re c) f ≡ merged s b (roomOf m ti ki st x re c)
+  settled-is {o} {f} eo ef = by-kind f (sym (ef ∙ ap (fittedIn (roomOf m ti ki st x re c)) eo))

@@ -26,7 +26,7 @@ none-is [] h = absurd (h refl)
 none-is (a ∷ t) h = refl
 
 -- a text that is not empty is a string's
-string-is : (o q : Out Text) → (length (textIn q) ≡ 0 → ⊥) → bothText o q ≡ same (textIn q) (textIn o)
+pub string-is : (o q : Out Text) → (length (textIn q) ≡ 0 → ⊥) → bothText o q ≡ same (textIn q) (textIn o)
 unfolding bothText textIn isText
 string-is (done t j) (done u k) h = refl
 string-is (done t j) (bad k) h = absurd (h refl)

@@ -120,10 +120,6 @@ module _ (s : Text) (names : List ℕ) (p : ℕ) where
     known-start = refl
 
     module _ (k : ℕ) (so : known s p (take n names) ≡ knownFrom n k) where
-      pub known-here : k < n → same (textAt s p) (textAt s (getD names k 0)) ≡ true → true ≡ known s p (take n names)
-      unfolding knownFrom any
-      known-here h e = sym (so ∙ (ap (known s p) (its k h) ∙ ap (λ (b : Bool). b || known s p (drop (suc k) (take n names))) e))
-
       pub known-on : k < n → same (textAt s p) (textAt s (getD names k 0)) ≡ false → known s p (take n names) ≡ knownFrom n (k + 1)
       unfolding knownFrom any
       known-on h e =

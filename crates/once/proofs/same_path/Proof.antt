@@ -1,18 +1,20 @@
--- `once::same_path` meets its contract: a path stands where the position is not 0.
--- Assumes nothing.
+-- `once::same_path` meets its contract: a path stands where the position is not 0. With the print 0 both texts are empty, with another both are strings. Assumes nothing.
 use borrow.Author.Needs.{needs}
-use Rattle.once.proofs.Twice.{path-none, path-some}
+use Rattle.once.proofs.Twice.{path-none, path-empty, path-string}
 use Rattle.once.proofs.same_path.Statement.{statement}
 use Rattle.once.proofs.same_path.Tie as tie
 
 returns : tie.Need-returns
 returns c = path-none (c .before .before .args .s .now) (c .before .before .args .p) (c .before .before .args .q) (c .if1 .taken)
 
-same-at-requires : tie.Need-same-at-requires
-same-at-requires c κs = search needs
-
 returns-2 : tie.Need-returns-2
-returns-2 c = path-some (c .before .before .before .args .s .now) (c .before .before .before .args .p) (c .before .before .before .args .q) (c .before .if1 .left) (c .same-at .ensures)
+returns-2 c = path-empty (c .before .before .before .args .s .now) (c .before .before .before .args .p) (c .before .before .before .args .q) (c .before .before .before .pre .0) (c .before .if1 .left) (c .before .before .before .pre .1) (c .if2 .taken)
+
+same-texts-requires : tie.Need-same-texts-requires
+same-texts-requires c κs = search needs
+
+returns-3 : tie.Need-returns-3
+returns-3 c = path-string (c .before .before .before .before .args .s .now) (c .before .before .before .before .args .p) (c .before .before .before .before .args .q) (c .before .before .before .before .pre .0) (c .before .before .if1 .left) (c .before .if2 .left) (c .same-texts .ensures)
 
 pub same-path-spec : {M : Type 1} → statement M
-same-path-spec = tie.close (tie.spec returns same-at-requires returns-2)
+same-path-spec = tie.close (tie.spec returns returns-2 same-texts-requires returns-3)

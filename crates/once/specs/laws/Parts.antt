@@ -1,15 +1,17 @@
 -- The rules' parts, as the functions ask for them: a rule in one entry, the ids from an item on or by the numbers of a table, a path before an entry. Assumes nothing.
-use mathlib.Core.Bool.{Bool}
+use mathlib.Core.Path.{_≡_}
+use mathlib.Core.Bool.{Bool, true, false}
 use mathlib.Core.List.{List, [], _∷_}
-use Prim.Native.Nat.{ℕ, zero, suc}
+use Prim.Native.Nat.{ℕ, zero, suc, _≤_, _<_}
 use lib.IntN.{ℤ, pos}
-use lib.ListN.{take, drop}
+use lib.ListN.{length, getD, take, drop}
 use Rattle.text.specs.Reading.{Text}
 use Rattle.manifest.specs.View.{one}
-use Rattle.manifest.specs.Rows.{the, holds, any, flat, path, id, entries}
-use Rattle.manifest.specs.Rules.{Rule, has-path}
-use Rattle.index.specs.Index.{itemsIn, entryAt, manifestOf}
+use Rattle.manifest.specs.Rows.{the, holds, any, flat, path, id, ids, entries}
+use Rattle.manifest.specs.Rules.{Rule, has-path, applies, twice-in, refusal-15-path-or-id-twice}
+use Rattle.index.specs.Index.{colOf, itemsIn, entryAt, manifestOf}
 use Rattle.index.specs.laws.Entries.{from, itemAt}
+use Rattle.named.specs.laws.Prints.{printAt}
 
 -- rule r applies in entry i
 abbrev pub inEntry : Rule → Text → List ℕ → ℕ → Bool
@@ -31,3 +33,18 @@ idsIn table n k = flat idOf (drop k (take n table))
 -- entry i has the path of an entry before it
 unfoldable pub pathBefore : Text → List ℕ → ℕ → Bool
 pathBefore s ix i = holds (λ t. any (holds (has-path t)) (take i (entries (manifestOf s ix)))) (path (entryAt s ix i))
+
+-- what a number tells of an id that is out of range or not, and else stands for those of a list
+pub record Numbered (out : Bool) (l : List ℤ) (r : ℕ) : Type 0 where
+  pub ranged : r ≤ 4294967296 → (out ≡ false) × (idOf r ≡ l)
+  pub past : 4294967296 < r → out ≡ true
+
+-- an id stands twice in an entry, so rule 15 applies; or in none of the first n
+pub record Told (s : Text) (ix : List ℕ) (n : ℕ) (twice : Bool) : Type 0 where
+  pub found : twice ≡ true → applies refusal-15-path-or-id-twice (manifestOf s ix) ≡ true
+  pub none : twice ≡ false → (j : ℕ) → j < n → twice-in (ids (entryAt s ix j)) ≡ false
+
+-- the prints of the paths of the first n entries
+pub record Printed (s : Text) (ix prints : List ℕ) (n : ℕ) : Type 0 where
+  pub long : length prints ≡ 32
+  pub each : (j : ℕ) → j < n → getD prints j 0 ≡ printAt s (colOf ix j 0)

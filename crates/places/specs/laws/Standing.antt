@@ -58,16 +58,16 @@ member-inv s i {k} {v} {e} f =
     (w .1, x .0, w .2 ∙ ap (λ (y : Text). done y (w .1)) p, sym q, ap (value inner s) (sym q) ∙ x .2 ∙ ap (done (x .0)) r)
 
 -- an item has its place
-item-pair : (s : Text) (i : ℕ) (t : Tree) (j : ℕ) → value inner s i ≡ done t j → (v : ℕ) × (item-place s i ≡ done v j) × Stands s v t
+pub item-pair : (s : Text) (i : ℕ) (t : Tree) (j : ℕ) → value inner s i ≡ done t j → (v : ℕ) × (item-place s i ≡ done v j) × Stands s v t
 unfolding item-place place
 item-pair s i t j e = (i, next-was _ e, stands-inner s i e)
 
 -- a member has its name and its value's place
-record Same (s : Text) (x : Text × Tree) (m : Text × ℕ) : Type 0 where
+pub record Same (s : Text) (x : Text × Tree) (m : Text × ℕ) : Type 0 where
   pub name : x .0 ≡ m .0
   pub value : Stands s (m .1) (x .1)
 
-member-pair : (s : Text) (i : ℕ) (x : Text × Tree) (j : ℕ) → member (value inner) s i ≡ done x j → (m : Text × ℕ) × (member-place s i ≡ done m j) × Same s x m
+pub member-pair : (s : Text) (i : ℕ) (x : Text × Tree) (j : ℕ) → member (value inner) s i ≡ done x j → (m : Text × ℕ) × (member-place s i ≡ done m j) × Same s x m
 unfolding member named bound member-place value-place named-place
 member-pair s i x j e =
     let w = next-inv (name s i) (named (value inner) s) e in
@@ -191,10 +191,6 @@ pub first-holds : {s : Text} {ps : List ℕ} {t : Tree} {ts : List Tree} → Hol
 unfolding counted
 first-holds (both-one h both-none) = h
 first-holds (both-one h (both-one g b)) = h
-
-pub length-holds : {s : Text} {ps : List ℕ} {ts : List Tree} → Hold s ps ts → length ps ≡ length ts
-length-holds both-none = refl
-length-holds (both-one h b) = ap suc (length-holds b)
 
 -- ---- one after the other
 

@@ -1,29 +1,29 @@
--- `reader::table` meets its contract: an end leaves zeros, and a manifest object that has passed is judged by its index. Assumes nothing.
-use mathlib.Core.Path.{sym}
-use Rattle.reader.specs.laws.Outer.{ends-with, passed-at}
+-- `reader::table` meets its contract: the survey's refusal is the refusal; else the index is the manifest, so what is judged over it is the refusal, and the index
+-- is left only where that is 0. Assumes nothing.
 use borrow.Author.Needs.{needs}
+use Rattle.reader.specs.laws.Found.{found-refused, found-none, found-passed}
+use Rattle.reader.proofs.Ends.{ends-later, accepts}
 use Rattle.reader.proofs.table.Statement.{statement}
 use Rattle.reader.proofs.table.Tie as tie
 
-judged-requires : tie.Need-judged-requires
-judged-requires c κs = search needs
-
-enum-known-refusal : tie.Need-enum-known-refusal
-enum-known-refusal c = search needs
-
-enum-known-v : tie.Need-enum-known-v
-enum-known-v c = search needs
-
-indexed-requires : tie.Need-indexed-requires
-indexed-requires c κs = passed-at (c .before .before .before .before .judged .ensures) (c .before .before .v .given .1)
+survey-requires : tie.Need-survey-requires
+survey-requires c κs = search needs
 
 returns : tie.Need-returns
-returns c = let (a, b) = ends-with (c .before .before .before .judged .ensures) (c .before .refusal .given .1) in (sym a, sym b)
+returns c = found-refused _ (c .before .survey .ensures .0) (c .before .survey .ensures .1) (c .if1 .taken)
 
 returns-2 : tie.Need-returns-2
-returns-2 c = search needs
+returns-2 c = found-none _ (c .before .before .survey .ensures .0) (c .before .before .survey .ensures .1) (c .before .if1 .left) (c .if2 .taken)
+
+later-requires : tie.Need-later-requires
+later-requires c κs = search needs
+
+returns-3 : tie.Need-returns-3
+returns-3 c = let g = found-passed _ (c .before .before .before .before .before .survey .ensures .0) (c .before .before .before .before .before .survey .ensures .1) (c .before .before .before .before .if1 .left) (c .before .before .before .if2 .left) in ends-later (g .passes) (g .few) (g .index) (c .before .later .ensures) (c .if3 .taken)
+
+returns-4 : tie.Need-returns-4
+returns-4 c = let g = found-passed _ (c .before .before .before .before .before .survey .ensures .0) (c .before .before .before .before .before .survey .ensures .1) (c .before .before .before .before .if1 .left) (c .before .before .before .if2 .left) in accepts (g .passes) (g .few) (g .index) (c .before .later .ensures) (c .if3 .left)
 
 pub table-spec : {M : Type 1} → statement M
 table-spec =
-    tie.close
-    (tie.spec judged-requires enum-known-refusal enum-known-v indexed-requires returns returns-2)
+    tie.close (tie.spec survey-requires returns returns-2 later-requires returns-3 returns-4)

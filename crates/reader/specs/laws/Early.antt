@@ -13,16 +13,7 @@ use Rattle.json.specs.Document.{read}
 use Rattle.manifest.specs.Manifest.{most-bytes, starts, refusalIn, refusalOf}
 use Rattle.manifest.specs.Statements.{Untouched}
 use Rattle.manifest.specs.laws.Bools.{zero-pick}
-
--- 3 or 4; 0 of what is read
-unfoldable pub earlyIn : Out Tree → ℕ
-earlyIn (done t j) = 0
-earlyIn (bad p) = 3
-earlyIn (deep p) = 4
-
--- 1 to 4 of a text that has bytes; 0 if none applies
-unfoldable pub earlyOf : Text → ℕ
-earlyOf s = pick (ltb most-bytes (length s)) 1 (pick (starts s) (earlyIn (read s)) 2)
+use Rattle.survey.specs.Survey.{earlyIn, earlyOf}
 
 -- the text is a document, and none of 1 to 4 applies
 pub record Document (s : Text) : Type 0 where

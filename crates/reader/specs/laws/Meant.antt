@@ -4,9 +4,9 @@ use mathlib.Core.Bool.{Bool, true, false}
 use mathlib.Core.List.{List, [], _∷_}
 use Prim.Native.Nat.{ℕ}
 use native.Mathlib.Omega.{arith}
+use native.Mathlib.Decide.{ℕ-discrete}
 use lib.Dec.{eqb}
 use lib.ListN.{length, length-replicate}
-use native.Mathlib.Decide.{ℕ-discrete}
 use borrow.Author.Tests.{eq-eqb, ne-eqb}
 use Rattle.text.specs.Reading.{Text, pick}
 use Rattle.text.specs.laws.Readers.{pick-true}
@@ -27,7 +27,8 @@ use Rattle.outline.specs.Theorems.{root-refused, versions-refused}
 use Rattle.members.specs.Members.{memberRefusalAt}
 use Rattle.index.specs.Index.{tooMany, manifestOf}
 use Rattle.index.specs.Theorems.{index-length, zeros-say-nothing}
-use Rattle.reader.specs.Reader.{indexFrom, tableOf, meaningBy}
+use Rattle.survey.specs.Survey.{indexFrom}
+use Rattle.reader.specs.Reader.{tableOf, meaningBy}
 use Rattle.reader.specs.laws.Passed.{Passed, passed, members-refused, index-holds, many-refused}
 use Rattle.reader.specs.laws.Tables.{zeros, refused-zeros, accepted-index, none-zeros}
 

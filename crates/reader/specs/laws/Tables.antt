@@ -14,8 +14,9 @@ use Rattle.manifest.specs.Manifest.{refusalOf}
 use Rattle.outline.specs.declared.Standing.the-variants.{At, Refused}
 use Rattle.outline.specs.Outline.{rootFrom, rootAt}
 use Rattle.index.specs.Index.{indexOf, entriesIn, listed}
+use Rattle.survey.specs.Survey.{indexFrom}
+use Rattle.reader.specs.Reader.{tableOf, namesOf}
 use Rattle.named.specs.Named.{declaredIn, distinctAt, namesIn, nameTable}
-use Rattle.reader.specs.Reader.{indexFrom, tableOf, namesOf}
 
 abbrev pub zeros : List ℕ
 zeros = replicate 2470 0

@@ -1,14 +1,17 @@
 -- The bytes that are a character of a string by themselves: the end is none, and where a byte is one, the run of them goes on. Assumes nothing.
 use mathlib.Core.Path.{_≡_, refl, sym, ap, _∙_}
 use mathlib.Core.Bool.{Bool, true, false, _&&_}
-use Prim.Native.Nat.{ℕ, _+_, _≤_, _<_}
+use Prim.Native.Nat.{ℕ, zero, suc, _+_, _*_, _≤_, _<_}
+use native.Mathlib.Nat.{zero-add}
 use native.Mathlib.Omega.{arith}
 use native.Mathlib.Decide.{decLt}
 use lib.ListN.{length, getD}
 use lib.Dec.{leb, ltb}
+use lib.Count.{trailingZeros}
 use Rattle.text.specs.Reading.{Text, pick, peek, run}
 use Rattle.text.specs.Class.{classOf}
 use Rattle.text.specs.laws.Peek.{peek-at, run-step, run-stop, run-past, run-ge, run-le}
+use Rattle.text.specs.laws.Marks.{marks, First, first-no}
 
 -- the classes 4 to 17
 abbrev pub own : ℕ → Bool
@@ -54,6 +57,42 @@ own-over s a {r} e f = go (decLt r (length s))
     go : Dec (r < length s) → r ≡ pastOwn s a
     go (yes l) = sym (e ∙ f l)
     go (no n) = sym (e ∙ own-past s r (omega arith))
+
+-- the byte j places after a position is plain
+unfoldable pub ownAt : Text → ℕ → ℕ → Bool
+ownAt s at j = own (getD s (at + j) 0)
+
+-- of n bytes at a position r are plain before one that is not, or all: the run of plain bytes goes on past them, and ends there if there are fewer than n
+pub record Near (s : Text) (at n r : ℕ) : Type 0 where
+  pub within : r ≤ n
+  pub ahead : pastOwn s at ≡ pastOwn s (at + r)
+  pub stops : r < n → pastOwn s (at + r) ≡ at + r
+
+module _ (s : Text) (at : ℕ) where
+  through : (r : ℕ) → at + r ≤ length s → ((j : ℕ) → j < r → ownAt s at j ≡ true) → pastOwn s at ≡ pastOwn s (at + r)
+  unfolding ownAt
+  through zero h f = ap (pastOwn s) (omega arith)
+  through (suc r) h f =
+      let q : at + r + 1 ≡ at + suc r = omega arith in
+      through r (omega arith) (λ j l. f j (omega arith)) ∙ own-step s (at + r) (omega arith) refl (f r (omega arith)) ∙ ap (pastOwn s) q
+
+  pub near-first : {n r : ℕ} → at + n ≤ length s → First (ownAt s at) 0 n r → Near s at n r
+  unfolding ownAt
+  near-first {n} {r} h f =
+      let w : r ≤ n = f .within in
+      record {
+        within = w;
+        ahead = through r (omega arith) (λ j l. ap (ownAt s at) (sym (zero-add j)) ∙ f .yes j l);
+        stops = λ l. own-stop s (at + r) (omega arith) refl (ap (ownAt s at) (sym (zero-add r)) ∙ f .no l);
+      }
+
+  pub near-marks : at + 8 ≤ length s → {m r : ℕ} → m ≡ 3 * marks (ownAt s at) 0 8 → r ≡ trailingZeros 16 m → Near s at 8 r
+  near-marks h {m} {r} e f =
+      let q : r ≡ trailingZeros 16 (3 * marks (ownAt s at) 0 8) = f ∙ ap (trailingZeros 16) e in
+      near-first h (rw q (first-no (ownAt s at) 8 16 0 (omega arith)))
+
+  pub near-all : {n r : ℕ} → Near s at n r → n ≤ r → pastOwn s at ≡ pastOwn s (at + n)
+  near-all {n} {r} f l = let w : r ≤ n = f .within in f .ahead ∙ ap (λ (k : ℕ). pastOwn s (at + k)) (omega arith)
 
 -- of the i bytes from a position on n are plain, counted one by one; where all are, the run of plain bytes goes on past them
 pub record Counted (s : Text) (at n i : ℕ) : Type 0 where

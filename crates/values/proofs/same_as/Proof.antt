@@ -2,7 +2,8 @@
 -- Assumes nothing.
 use Rattle.values.specs.laws.Ordinary.{inside}
 use Rattle.values.specs.Strings.{sameAs}
-use Rattle.values.proofs.Rest.{rest, character-in, some-byte, code-of, code-no}
+use Rattle.values.specs.laws.Compared.{rest}
+use Rattle.values.proofs.Rest.{character-in, some-byte, code-of, code-no}
 use Rattle.values.proofs.Compare.{matches, same-none, same-start, same-close, same-other, same-over, same-more, same-stop, same-byte-other, same-byte-more}
 use Rattle.text.specs.laws.Peek.{found-in}
 use borrow.Author.Needs.{needs}

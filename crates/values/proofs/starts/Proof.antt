@@ -1,5 +1,7 @@
 -- `values::starts` meets its contract: for each width the bytes compared are those of `utf8`.
 -- Assumes nothing.
+use mathlib.Core.Bool.{Bool, _&&_}
+use mathlib.Core.Path.{_≡_, _∙_, ap}
 use borrow.Author.Tests.{lt-ltb, le-ltb}
 use borrow.Author.Needs.{needs}
 use Rattle.text.specs.Strings.{utf8}
@@ -7,6 +9,10 @@ use Rattle.text.specs.Reading.{pick}
 use Rattle.values.specs.laws.Compared.{startsFrom}
 use Rattle.values.proofs.starts.Statement.{statement}
 use Rattle.values.proofs.starts.Tie as tie
+
+-- what was the same so far was told by an answer before
+also : (x : Bool) {r a b : Bool} → r ≡ (a && x) → a ≡ b → r ≡ (b && x)
+also x e f = e ∙ ap (λ (t : Bool). t && x) f
 
 more-requires : tie.Need-more-requires
 more-requires c κs = search needs
@@ -32,7 +38,7 @@ more-requires-3 c κs = search needs
 
 returns-2 : tie.Need-returns-2
 unfolding utf8 pick startsFrom
-returns-2 c = simp (le-ltb _ _ (c .before .before .before .if1 .left), lt-ltb _ _ (c .before .before .if2 .taken)) (cc)
+returns-2 c = simp (le-ltb _ _ (c .before .before .before .if1 .left), lt-ltb _ _ (c .before .before .if2 .taken)) (also _ (c .more3 .ensures) (c .before .more2 .ensures))
 
 add-k2 : tie.Need-add-k2
 add-k2 c = search needs
@@ -57,7 +63,7 @@ more-requires-6 c κs = search needs
 
 returns-3 : tie.Need-returns-3
 unfolding utf8 pick startsFrom
-returns-3 c = simp (le-ltb _ _ (c .before .before .before .before .before .if1 .left), le-ltb _ _ (c .before .before .before .before .if2 .left), lt-ltb _ _ (c .before .before .before .if3 .taken)) (cc)
+returns-3 c = simp (le-ltb _ _ (c .before .before .before .before .before .if1 .left), le-ltb _ _ (c .before .before .before .before .if2 .left), lt-ltb _ _ (c .before .before .before .if3 .taken)) (also _ (c .more6 .ensures) (also _ (c .before .more5 .ensures) (c .before .before .more4 .ensures)))
 
 add-more-6 : tie.Need-add-more-6
 add-more-6 c = search needs
@@ -88,7 +94,7 @@ more-requires-10 c κs = search needs
 
 returns-4 : tie.Need-returns-4
 unfolding utf8 pick startsFrom
-returns-4 c = simp (le-ltb _ _ (c .before .before .before .before .before .before .if1 .left), le-ltb _ _ (c .before .before .before .before .before .if2 .left), le-ltb _ _ (c .before .before .before .before .if3 .left)) (cc)
+returns-4 c = simp (le-ltb _ _ (c .before .before .before .before .before .before .if1 .left), le-ltb _ _ (c .before .before .before .before .before .if2 .left), le-ltb _ _ (c .before .before .before .before .if3 .left)) (also _ (c .more10 .ensures) (also _ (c .before .more9 .ensures) (also _ (c .before .before .more8 .ensures) (c .before .before .before .more7 .ensures))))
 
 pub starts-spec : {M : Type 1} → statement M
 starts-spec =

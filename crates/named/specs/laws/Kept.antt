@@ -1,0 +1,85 @@
+-- The prints that are kept beside the names of a table, and the place of a name in it. Assumes nothing.
+use mathlib.Core.Path.{_≡_, sym, ap, _∙_}
+use mathlib.Core.Bool.{Bool, true, _||_, or-true}
+use mathlib.Core.List.{List, [], _∷_}
+use Prim.Native.Nat.{ℕ, zero, suc, _+_, _≤_, _<_}
+use native.Mathlib.Omega.{arith}
+use native.Mathlib.Decide.{ℕ-discrete}
+use lib.Dec.{ltb}
+use lib.ListN.{length, getD, take, set, length-set}
+use lib.Seq.{getD-set-same, getD-set-other, length-take-le, getD-take}
+use borrow.Author.Tests.{lt-ltb, le-ltb}
+use Rattle.text.specs.Reading.{Text, Out, done, bad, deep}
+use Rattle.text.specs.Strings.{string}
+use Rattle.json.specs.Tree.{same}
+use Rattle.values.specs.Strings.{isText, bothText, sameTexts}
+use Rattle.manifest.specs.Rows.{any}
+use Rattle.index.specs.Index.{textIn, textAt}
+use Rattle.named.specs.laws.Texts.{known}
+use Rattle.named.specs.laws.Firsts.{knownFrom, known-past}
+use Rattle.named.specs.laws.Prints.{printAt}
+
+-- beside each of the first n names stands its print
+pub record Printed (s : Text) (names prints : List ℕ) (n : ℕ) : Type 0 where
+  pub long : length prints ≡ 32
+  pub each : (k : ℕ) → k < n → getD prints k 0 ≡ printAt s (getD names k 0)
+
+-- the text at p is the name at place r of the first n, or none of them and r is n
+pub record Place (s : Text) (p : ℕ) (names : List ℕ) (n r : ℕ) : Type 0 where
+  pub few : r ≤ n
+  pub tells : known s p (take n names) ≡ ltb r n
+
+module _ (s : Text) where
+  -- ---- prints
+
+  -- of no names; of one more
+  pub printed-none : {names prints : List ℕ} → length prints ≡ 32 → Printed s names prints 0
+  printed-none e = record { long = e; each = λ k h. absurd (omega arith) }
+
+  pub printed-more : (p : ℕ) {names prints : List ℕ} {n v : ℕ} → length names ≡ 32 → n < 32 → Printed s names prints n → v ≡ printAt s p → Printed s (set names n p) (set prints n v) (n + 1)
+  printed-more p {names} {prints} {n} {v} l h a e = record { long = length-set prints n v ∙ a .long; each = λ k b. go k b (ℕ-discrete k n) }
+    where
+      go : (k : ℕ) → k < n + 1 → Dec (k ≡ n) → getD (set prints n v) k 0 ≡ printAt s (getD (set names n p) k 0)
+      go k b (yes q) =
+          let m : n < length prints = omega (arith, a .long) in
+          ap (λ (x : ℕ). getD (set prints n v) x 0) q
+          ∙ (getD-set-same prints n v 0 m
+          ∙ (e ∙ (ap (printAt s) (sym (getD-set-same names n p 0 (omega arith))) ∙ ap (λ (x : ℕ). printAt s (getD (set names n p) x 0)) (sym q))))
+      go k b (no q) =
+          let c : k < n = omega arith in
+          getD-set-other prints n k v 0 q ∙ (a .each k c ∙ ap (printAt s) (sym (getD-set-other names n k p 0 q)))
+
+  -- ---- places
+
+  -- two strings that are one text
+  one-text : (o q : Out Text) → bothText o q ≡ true → same (textIn q) (textIn o) ≡ true
+  unfolding bothText isText textIn
+  one-text (done t j) (done u k) h = h
+  one-text (done t j) (bad k) h = let z : _≡_ {A = ℕ} 0 1 = cc in absurd (omega arith)
+  one-text (done t j) (deep k) h = let z : _≡_ {A = ℕ} 0 1 = cc in absurd (omega arith)
+  one-text (bad j) q h = let z : _≡_ {A = ℕ} 0 1 = cc in absurd (omega arith)
+  one-text (deep j) q h = let z : _≡_ {A = ℕ} 0 1 = cc in absurd (omega arith)
+
+  any-at : (f : ℕ → Bool) (l : List ℕ) (k : ℕ) → k < length l → f (getD l k 0) ≡ true → any f l ≡ true
+  unfolding any
+  any-at f [] k h e = absurd (omega arith)
+  any-at f (q ∷ l) zero h e = ap (λ (b : Bool). b || any f l) e
+  any-at f (q ∷ l) (suc k) h e = ap (λ (b : Bool). f q || b) (any-at f l k (omega arith) e) ∙ or-true (f q)
+
+  module _ (p : ℕ) {names : List ℕ} {n : ℕ} (long : length names ≡ 32) (few : n ≤ 32) where
+    -- it is the name at k
+    pub place-here : {k : ℕ} → k < n → same (textAt s p) (textAt s (getD names k 0)) ≡ true → Place s p names n k
+    place-here {k} h e =
+        let l : n ≤ length names = omega arith in
+        record {
+          few = omega arith;
+          tells = any-at (λ q. same (textAt s p) (textAt s q)) (take n names) k (omega (arith, length-take-le n names l)) (ap (λ (q : ℕ). same (textAt s p) (textAt s q)) (getD-take n names k 0 h) ∙ e) ∙ sym (lt-ltb k n h);
+        }
+
+    pub place-text : {k : ℕ} {b : Bool} → k < n → b ≡ sameTexts s (getD names k 0) p → b ≡ true → Place s p names n k
+    unfolding sameTexts textAt
+    place-text {k} h e f = place-here h (one-text (string s (getD names k 0)) (string s p) (sym e ∙ f))
+
+    -- it is none of them
+    pub place-none : (k : ℕ) → known s p (take n names) ≡ knownFrom s names p n k → n ≤ k → Place s p names n n
+    place-none k so h = record { few = omega arith; tells = sym (known-past s names p n (omega arith) k so h) ∙ sym (le-ltb n n (omega arith)) }

@@ -1,0 +1,3 @@
+-- What is settled of what was told. In reading order.
+pub mod Settled
+pub mod laws

@@ -1,0 +1,581 @@
+// The survey of a manifest: refusals 1 to 9, 10 where the index cannot hold it, and the index.
+ghost use mathlib.Core.Path.{_≡_};
+ghost use mathlib.Core.Bool.{true, false};
+ghost use Prim.Native.Nat.{ℕ, _+_, _<_, _≤_};
+ghost use lib.ListN.{length, getD, replicate};
+ghost use Rattle.table.specs.Table.{lineAt};
+ghost use Rattle.outline.specs.Outline.{not-1-at};
+ghost use Rattle.index.specs.Index.{indexOf};
+ghost use Rattle.index.specs.laws.Put.{Put};
+ghost use Rattle.survey.specs.Survey.{earlyOf, objectRefusal, surveyOf, surveyed};
+ghost use Rattle.survey.specs.laws.Bare.{Bare};
+ghost use Rattle.survey.specs.laws.Sole.{Closes};
+ghost use Rattle.survey.specs.laws.Walked.{Fits, Entered, Noted, Complete, Row, Inner, Machines, MachinesAt, Told, Files, FilesAt, Manifest, Array, Puts, Clear};
+
+// The kinds by number: 0 text, 1 integer, 2 any value, 3 `sync_to`, 4 `clocks`, 5 an item of `machines`, 6 `machine`, 7 `machines`, 8 an entry, 9 `files`,
+// 10 `trace_time`, 11 the manifest object.
+
+// A member that was walked over: the line about it, where its value stands, and where that ends; 0 if it is unclear.
+struct Step {
+    line: usize,
+    at: usize,
+    end: usize,
+}
+
+// The value at a position ends here if it has the JSON type of a kind and at most so many levels; 0 if it has not.
+fn typed(s: &[u8], at: usize, kind: u8, levels: u8) -> usize
+    requires { ⌜ levels ≤ 15 ⌝ }
+    ensures { λ r. ⌜ ((r ≡ 0 → ⊥) → Fits kind levels (now (s .entry)) at r) ⌝ }
+{
+    match json::value(s, at, levels) {
+        text::Scan::Done(end) => {
+            if kind == 2 {
+                return end;
+            }
+            if table::tag_at(s, at) == table::wanted(kind) {
+                end
+            } else {
+                0
+            }
+        }
+        text::Scan::Bad(_) => 0,
+        text::Scan::Deep(_) => 0,
+    }
+}
+
+// The string at a position ends here; 0 if none stands there.
+fn text_end(s: &[u8], at: usize) -> usize
+    ensures { λ r. ⌜ ((r ≡ 0 → ⊥) → (l : ℕ) → Fits 0 l (now (s .entry)) at r) ⌝ }
+{
+    match text::string(s, at) {
+        text::Scan::Done(j) => j,
+        text::Scan::Bad(_) => 0,
+        text::Scan::Deep(_) => 0,
+    }
+}
+
+// The same as `typed`. Most values are texts, for which the string alone is read.
+fn passed(s: &[u8], at: usize, kind: u8, levels: u8) -> usize
+    requires { ⌜ levels ≤ 15 ⌝ }
+    ensures { λ r. ⌜ ((r ≡ 0 → ⊥) → Fits kind levels (now (s .entry)) at r) ⌝ }
+{
+    if kind == 0 {
+        return text_end(s, at);
+    }
+    typed(s, at, kind, levels)
+}
+
+// A member of an object of a kind, from its name on.
+fn member(s: &[u8], at: usize, object: u8, levels: u8) -> Step
+    requires { ⌜ (object < 12) × (levels ≤ 15) ⌝ }
+    ensures { λ r. ⌜ ((r .end ≡ 0 → ⊥) → Entered object levels (now (s .entry)) at (r .line) (r .at) (r .end)) ⌝ }
+{
+    match json::name(s, at) {
+        text::Scan::Done(j) => {
+            let line = table::line_of(s, at, object);
+            let v = text::blank(s, j);
+            let end = passed(s, v, table::value_kind(line), levels);
+            Step {
+                line: line,
+                at: v,
+                end: end,
+            }
+        }
+        text::Scan::Bad(_) => Step {
+            line: 20,
+            at: 0,
+            end: 0,
+        },
+        text::Scan::Deep(_) => Step {
+            line: 20,
+            at: 0,
+            end: 0,
+        },
+    }
+}
+
+// The place of a member's value is noted in its line's column, if that is free: the first number of a row is the object's end, then come the columns.
+fn noted(found: &mut [usize; 5], object: u8, line: usize, at: usize) -> bool
+    requires { ⌜ (length (now found) ≡ 5) × (object < 12) × (line < 20 → lineAt line .place ≡ object) ⌝ }
+    ensures { λ r. ⌜ (r ≡ true → Noted object line at (now (found .entry)) (now (found .exit))) ⌝ }
+{
+    if line < 20 {
+        let column = line - table::first(object) + 1;
+        if found[column] != 0 {
+            return false;
+        }
+        found[column] = at;
+    }
+    true
+}
+
+// A member that refusal 9 asks for in an object of a kind was not noted.
+fn lacking(found: &[usize; 5], object: u8) -> bool
+    requires { ⌜ (length (now found) ≡ 5) × (object < 12) ⌝ }
+    ensures { λ r. ⌜ (r ≡ false → Complete object (now (found .entry))) ⌝ }
+{
+    let start = table::first(object);
+    let past = table::first(object + 1);
+    let mut line = start;
+    while line < past {
+        if table::asked(line) {
+            if found[line - start + 1] == 0 {
+                return true;
+            }
+        }
+        line += 1;
+    }
+    false
+}
+
+// The object of a kind at a position, its members' values with at most so many levels: its end and where its known members have their values. The end is 0 if it
+// is unclear: something that is not JSON, twice, of a wrong type or lacking, or no member at all.
+fn row(s: &[u8], at: usize, object: u8, levels: u8) -> [usize; 5]
+    requires { ⌜ (object < 12) × (levels ≤ 15) ⌝ }
+    ensures { λ r. ⌜ ((getD r 0 0 ≡ 0 → ⊥) → Row object levels (now (s .entry)) at r) ⌝ }
+{
+    let mut found: [usize; 5] = [0; 5];
+    if text::byte(s, at) != 123 {
+        return found;
+    }
+    let mut i = text::blank(s, at + 1);
+    loop {
+        let m = member(s, i, object, levels);
+        if m.end == 0 || !noted(&mut found, object, m.line, m.at) {
+            return [0, 0, 0, 0, 0];
+        }
+        let e = text::blank(s, m.end);
+        let b = text::byte(s, e);
+        if b == 125 {
+            if lacking(&found, object) {
+                return [0, 0, 0, 0, 0];
+            }
+            found[0] = e + 1;
+            return found;
+        }
+        if b != 44 {
+            return [0, 0, 0, 0, 0];
+        }
+        i = text::blank(s, e + 1);
+    }
+}
+
+// The end of the array or of the object at a position, which opens and closes with these bytes, if nothing is in it; 0 if something is.
+fn bare(s: &[u8], at: usize, opener: u32, closer: u32) -> usize
+    requires { ⌜ (opener < 256) × (closer < 256) ⌝ }
+    ensures { λ r. ⌜ ((r ≡ 0 → ⊥) → Bare opener closer (now (s .entry)) at r) ⌝ }
+{
+    if text::byte(s, at) != opener {
+        return 0;
+    }
+    let i = text::blank(s, at + 1);
+    if text::byte(s, i) == closer { i + 1 } else { 0 }
+}
+
+// The row of an object that may be absent, which is told with an end of 1, or without a member.
+fn inside(s: &[u8], at: usize, object: u8, levels: u8) -> [usize; 5]
+    requires { ⌜ (object < 12) × (levels ≤ 15) ⌝ }
+    ensures { λ r. ⌜ ((getD r 0 0 ≡ 0 → ⊥) → Inner object levels (now (s .entry)) at r) ⌝ }
+{
+    if at == 0 {
+        return [1, 0, 0, 0, 0];
+    }
+    let none: [usize; 5] = [0; 5];
+    let end = bare(s, at, 123, 125);
+    if end != 0 && !lacking(&none, object) {
+        return [end, 0, 0, 0, 0];
+    }
+    row(s, at, object, levels)
+}
+
+// The items of `machines`: their number and their columns are put into the index. The end is 0 if there are more than 32 or none, or something is unclear.
+fn machines(s: &[u8], at: usize, base: usize, ix: &mut [usize; 2470]) -> usize
+    requires { ⌜ (at ≡ 0 → ⊥) × (length (now ix) ≡ 2470) × (base + 65 ≤ 2470) ⌝ }
+    ensures { λ r. ⌜ ((r ≡ 0 → ⊥) → Machines (now (s .entry)) base at r (now (ix .entry)) (now (ix .exit))) ⌝ }
+{
+    if text::byte(s, at) != 91 {
+        return 0;
+    }
+    let mut i = text::blank(s, at + 1);
+    let mut n: usize = 0;
+    while n < 32 {
+        let item = row(s, i, 5, 10);
+        if item[0] == 0 {
+            return 0;
+        }
+        ix[base + 1 + 2 * n] = item[1];
+        ix[base + 1 + 2 * n + 1] = item[2];
+        n += 1;
+        let e = text::blank(s, item[0]);
+        let b = text::byte(s, e);
+        if b == 93 {
+            ix[base] = n;
+            return e + 1;
+        }
+        if b != 44 {
+            return 0;
+        }
+        i = text::blank(s, e + 1);
+    }
+    0
+}
+
+// The same, and there may be no item: then nothing is put, for all is 0 there.
+fn any_machines(s: &[u8], at: usize, base: usize, ix: &mut [usize; 2470]) -> usize
+    requires { ⌜ (at ≡ 0 → ⊥) × (length (now ix) ≡ 2470) × (base + 65 ≤ 2470) ⌝ }
+    ensures { λ r. ⌜ ((r ≡ 0 → ⊥) → Machines (now (s .entry)) base at r (now (ix .entry)) (now (ix .exit))) ⌝ }
+{
+    let end = bare(s, at, 91, 93);
+    if end != 0 {
+        return end;
+    }
+    machines(s, at, base, ix)
+}
+
+// A member of an entry, from its name on. The items of `machines` go into the index at once.
+fn entry_member(s: &[u8], at: usize, base: usize, ix: &mut [usize; 2470]) -> Step
+    requires { ⌜ (length (now ix) ≡ 2470) × (base + 77 ≤ 2470) ⌝ }
+    ensures { λ r. ⌜ ((r .end ≡ 0 → ⊥) → Entered 8 12 (now (s .entry)) at (r .line) (r .at) (r .end) × Puts (MachinesAt (now (s .entry)) (base + 12)) 12 (r .line) (r .at) (now (ix .entry)) (now (ix .exit))) ⌝ }
+{
+    match json::name(s, at) {
+        text::Scan::Done(j) => {
+            let line = table::line_of(s, at, 8);
+            let v = text::blank(s, j);
+            let end = if line == 12 {
+                any_machines(s, v, base + 12, ix)
+            } else {
+                passed(s, v, table::value_kind(line), 12)
+            };
+            Step {
+                line: line,
+                at: v,
+                end: end,
+            }
+        }
+        text::Scan::Bad(_) => Step {
+            line: 20,
+            at: 0,
+            end: 0,
+        },
+        text::Scan::Deep(_) => Step {
+            line: 20,
+            at: 0,
+            end: 0,
+        },
+    }
+}
+
+// The row of an entry, as `row` gives it; the items of its `machines` go into the index.
+fn entry_row(s: &[u8], at: usize, base: usize, ix: &mut [usize; 2470]) -> [usize; 5]
+    requires { ⌜ (length (now ix) ≡ 2470) × (base + 77 ≤ 2470) ⌝ }
+    ensures { λ r. ⌜ ((getD r 0 0 ≡ 0 → ⊥) → Row 8 12 (now (s .entry)) at r × Array (MachinesAt (now (s .entry)) (base + 12)) (getD r 3 0) (now (ix .entry)) (now (ix .exit))) ⌝ }
+{
+    let mut found: [usize; 5] = [0; 5];
+    if text::byte(s, at) != 123 {
+        return found;
+    }
+    let mut i = text::blank(s, at + 1);
+    loop {
+        let m = entry_member(s, i, base, ix);
+        if m.end == 0 || !noted(&mut found, 8, m.line, m.at) {
+            return [0, 0, 0, 0, 0];
+        }
+        let e = text::blank(s, m.end);
+        let b = text::byte(s, e);
+        if b == 125 {
+            if lacking(&found, 8) {
+                return [0, 0, 0, 0, 0];
+            }
+            found[0] = e + 1;
+            return found;
+        }
+        if b != 44 {
+            return [0, 0, 0, 0, 0];
+        }
+        i = text::blank(s, e + 1);
+    }
+}
+
+// The numbers of a row are put into the index, from a place on.
+fn store(ix: &mut [usize; 2470], base: usize, row: &[usize])
+    requires { ⌜ (length (now ix) ≡ 2470) × (base + length (now row) ≤ 2470) ⌝ }
+    ensures { λ _. ⌜ Put (now (ix .entry)) base (now (row .entry)) (now (ix .exit)) ⌝ }
+{
+    let mut j: usize = 0;
+    while j < row.len() {
+        ix[base + j] = row[j];
+        j += 1;
+    }
+}
+
+// An entry: its end, and its numbers are put into the index. The end is 0 if something is unclear. Its `machine` and its `clocks` are read once more, which are short.
+fn entry(s: &[u8], at: usize, base: usize, ix: &mut [usize; 2470]) -> usize
+    requires { ⌜ (at ≡ 0 → ⊥) × (length (now ix) ≡ 2470) × (base + 77 ≤ 2470) ⌝ }
+    ensures { λ r. ⌜ ((r ≡ 0 → ⊥) → Told (now (s .entry)) base at r (now (ix .entry)) (now (ix .exit))) ⌝ }
+{
+    let own = entry_row(s, at, base, ix);
+    let machine = inside(s, own[2], 6, 11);
+    let clocks = inside(s, own[4], 4, 11);
+    let sync = inside(s, clocks[3], 3, 10);
+    if own[0] == 0 || machine[0] == 0 || clocks[0] == 0 || sync[0] == 0 {
+        return 0;
+    }
+    let row = [
+        own[1],
+        own[2],
+        machine[1],
+        own[3],
+        own[4],
+        clocks[1],
+        clocks[2],
+        clocks[3],
+        sync[1],
+        sync[2],
+        sync[3],
+        clocks[4],
+    ];
+    store(ix, base, &row);
+    own[0]
+}
+
+// The entries of `files`: their number and their blocks are put into the index. The end is 0 if there are more than 32 or none, or something is unclear.
+fn files(s: &[u8], at: usize, ix: &mut [usize; 2470]) -> usize
+    requires { ⌜ (at ≡ 0 → ⊥) × (length (now ix) ≡ 2470) ⌝ }
+    ensures { λ r. ⌜ ((r ≡ 0 → ⊥) → Files (now (s .entry)) at r (now (ix .entry)) (now (ix .exit))) ⌝ }
+{
+    if text::byte(s, at) != 91 {
+        return 0;
+    }
+    let mut i = text::blank(s, at + 1);
+    let mut n: usize = 0;
+    while n < 32 {
+        let end = entry(s, i, 6 + 77 * n, ix);
+        if end == 0 {
+            return 0;
+        }
+        n += 1;
+        let e = text::blank(s, end);
+        let b = text::byte(s, e);
+        if b == 93 {
+            ix[5] = n;
+            return e + 1;
+        }
+        if b != 44 {
+            return 0;
+        }
+        i = text::blank(s, e + 1);
+    }
+    0
+}
+
+// The same, and there may be no entry: then nothing is put, for all is 0 there.
+fn any_files(s: &[u8], at: usize, ix: &mut [usize; 2470]) -> usize
+    requires { ⌜ (at ≡ 0 → ⊥) × (length (now ix) ≡ 2470) ⌝ }
+    ensures { λ r. ⌜ ((r ≡ 0 → ⊥) → Files (now (s .entry)) at r (now (ix .entry)) (now (ix .exit))) ⌝ }
+{
+    let end = bare(s, at, 91, 93);
+    if end != 0 {
+        return end;
+    }
+    files(s, at, ix)
+}
+
+// The value at a position isn't the integer 1.
+fn not_one(s: &[u8], at: usize) -> bool
+    ensures { λ r. ⌜ r ≡ not-1-at (now (s .entry)) at ⌝ }
+{
+    match values::integer_at(s, at) {
+        values::Integer::In(n) => n != 1,
+        values::Integer::Below => true,
+        values::Integer::Above => true,
+        values::Integer::None => true,
+    }
+}
+
+// A member of the manifest object, from its name on. The entries of `files` go into the index at once.
+fn manifest_member(s: &[u8], at: usize, ix: &mut [usize; 2470]) -> Step
+    requires { ⌜ length (now ix) ≡ 2470 ⌝ }
+    ensures { λ r. ⌜ ((r .end ≡ 0 → ⊥) → Entered 11 14 (now (s .entry)) at (r .line) (r .at) (r .end) × Puts (FilesAt (now (s .entry))) 19 (r .line) (r .at) (now (ix .entry)) (now (ix .exit))) ⌝ }
+{
+    match json::name(s, at) {
+        text::Scan::Done(j) => {
+            let line = table::line_of(s, at, 11);
+            let v = text::blank(s, j);
+            let end = if line == 19 {
+                any_files(s, v, ix)
+            } else {
+                passed(s, v, table::value_kind(line), 14)
+            };
+            Step {
+                line: line,
+                at: v,
+                end: end,
+            }
+        }
+        text::Scan::Bad(_) => Step {
+            line: 20,
+            at: 0,
+            end: 0,
+        },
+        text::Scan::Deep(_) => Step {
+            line: 20,
+            at: 0,
+            end: 0,
+        },
+    }
+}
+
+// The row of the manifest object, as `row` gives it; the entries of its `files` go into the index.
+fn manifest_row(s: &[u8], at: usize, ix: &mut [usize; 2470]) -> [usize; 5]
+    requires { ⌜ length (now ix) ≡ 2470 ⌝ }
+    ensures { λ r. ⌜ ((getD r 0 0 ≡ 0 → ⊥) → Row 11 14 (now (s .entry)) at r × Array (FilesAt (now (s .entry))) (getD r 3 0) (now (ix .entry)) (now (ix .exit))) ⌝ }
+{
+    let mut found: [usize; 5] = [0; 5];
+    if text::byte(s, at) != 123 {
+        return found;
+    }
+    let mut i = text::blank(s, at + 1);
+    loop {
+        let m = manifest_member(s, i, ix);
+        if m.end == 0 || !noted(&mut found, 11, m.line, m.at) {
+            return [0, 0, 0, 0, 0];
+        }
+        let e = text::blank(s, m.end);
+        let b = text::byte(s, e);
+        if b == 125 {
+            if lacking(&found, 11) {
+                return [0, 0, 0, 0, 0];
+            }
+            found[0] = e + 1;
+            return found;
+        }
+        if b != 44 {
+            return [0, 0, 0, 0, 0];
+        }
+        i = text::blank(s, e + 1);
+    }
+}
+
+// The manifest object: its end, and its index, if the index has been all 0. The end is 0 if something is unclear.
+fn manifest(s: &[u8], at: usize, ix: &mut [usize; 2470]) -> usize
+    requires { ⌜ (at ≡ 0 → ⊥) × (length (now ix) ≡ 2470) ⌝ }
+    ensures { λ r. ⌜ ((r ≡ 0 → ⊥) → Manifest (now (s .entry)) at r (now (ix .entry)) (now (ix .exit))) ⌝ }
+{
+    let own = manifest_row(s, at, ix);
+    let trace = inside(s, own[2], 10, 13);
+    if own[0] == 0 || own[1] == 0 || trace[0] == 0 || not_one(s, own[1]) {
+        return 0;
+    }
+    let row = [own[3], own[2], trace[1], trace[2], trace[3]];
+    store(ix, 0, &row);
+    own[0]
+}
+
+// All of the index is 0.
+fn clear(ix: &mut [usize; 2470])
+    ensures { λ _. ⌜ now (ix .exit) ≡ replicate 2470 0 ⌝ }
+{
+    let zeros: [usize; 2470] = [0; 2470];
+    *ix = zeros;
+}
+
+// After the outermost object's first member, which ends at a position, the object ends, and the text with it.
+fn closes(s: &[u8], past: usize) -> bool
+    ensures { λ r. ⌜ (r ≡ true → Closes (now (s .entry)) past) ⌝ }
+{
+    let end = text::blank(s, past);
+    if text::byte(s, end) != 125 {
+        return false;
+    }
+    text::byte(s, text::blank(s, end + 1)) == 256
+}
+
+// One walk over the text: none of 1 to 10 refuses it, and this is its index. Most manifests are read but once so; whatever is unusual is left to `in_turn`.
+fn walked(s: &[u8], ix: &mut [usize; 2470]) -> bool
+    ensures { λ r. ⌜ (r ≡ true → Clear (now (s .entry)) (now (ix .exit))) ⌝ }
+{
+    if 65536 < s.len() || !outline::opens(s) {
+        return false;
+    }
+    let start = text::blank(s, 0);
+    if text::byte(s, start) != 123 {
+        return false;
+    }
+    match json::name(s, text::blank(s, start + 1)) {
+        text::Scan::Done(j) => {
+            clear(ix);
+            let end = manifest(s, text::blank(s, j), ix);
+            if end == 0 {
+                return false;
+            }
+            closes(s, end)
+        }
+        text::Scan::Bad(_) => false,
+        text::Scan::Deep(_) => false,
+    }
+}
+
+// Refusals 1 to 4 of a text that has bytes; 0 if none applies. Between 3 and 4 the byte that comes first decides.
+fn early(s: &[u8]) -> u8
+    ensures { λ r. ⌜ r ≡ earlyOf (now (s .entry)) ⌝ }
+{
+    if s.len() > 65536 {
+        return 1;
+    }
+    if !outline::opens(s) {
+        return 2;
+    }
+    match json::document(s) {
+        text::Scan::Done(_) => 0,
+        text::Scan::Bad(_) => 3,
+        text::Scan::Deep(_) => 4,
+    }
+}
+
+// Refusals 6 to 10 of the manifest object, which stands at v; and its index, if none applies.
+fn object(s: &[u8], v: usize, ix: &mut [usize; 2470]) -> u8
+    ensures { λ r. ⌜ (r ≡ objectRefusal (now (s .entry)) v) × (r ≡ 0 → now (ix .exit) ≡ indexOf (now (s .entry)) v) ⌝ }
+{
+    let version = outline::versions(s, v);
+    if version != 0 {
+        return version;
+    }
+    let member = members::judge(s, v);
+    if member != 0 {
+        return member;
+    }
+    if fills::fill(s, v, ix) { 10 } else { 0 }
+}
+
+// Refusals 1 to 10 of a text that has bytes, each judged by itself; and its index, if none applies.
+fn in_turn(s: &[u8], ix: &mut [usize; 2470]) -> u8
+    requires { ⌜ (length (now s) ≡ 0 → ⊥) ⌝ }
+    ensures { λ r. ⌜ (r ≡ surveyOf (now (s .entry))) × (r ≡ 0 → now (ix .exit) ≡ surveyed (now (s .entry))) ⌝ }
+{
+    let refusal = early(s);
+    if refusal != 0 {
+        return refusal;
+    }
+    match outline::root(s) {
+        outline::Standing::At(v) => object(s, v, ix),
+        outline::Standing::Refused => 5,
+    }
+}
+
+// The first of refusals 1 to 9 of a text, or 10 if the index cannot hold its entries or their items, or 0; and its index. A refusal leaves zeros, and so do no bytes.
+pub fn survey(s: &[u8], ix: &mut [usize; 2470]) -> u8
+    ensures { λ r. ⌜ (r ≡ surveyOf (now (s .entry))) × (now (ix .exit) ≡ surveyed (now (s .entry))) ⌝ }
+{
+    if s.len() == 0 {
+        clear(ix);
+        return 0;
+    }
+    if walked(s, ix) {
+        return 0;
+    }
+    let refusal = in_turn(s, ix);
+    if refusal != 0 {
+        clear(ix);
+    }
+    refusal
+}

@@ -1,0 +1,6 @@
+-- Laws of the definitions, for the proofs and those who build on them.
+pub mod Some
+pub mod Lines
+pub mod Heads
+pub mod Looking
+pub mod Types

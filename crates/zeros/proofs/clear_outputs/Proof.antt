@@ -1,0 +1,44 @@
+-- `zeros::clear_outputs` meets its contract: each memory is set to zeros. Assumes nothing.
+use Rattle.zeros.proofs.clear_outputs.Statement.{statement}
+use Rattle.zeros.proofs.clear_outputs.Tie as tie
+
+bytes-requires : tie.Need-bytes-requires
+bytes-requires c κs = tt
+
+clear-times-requires : tie.Need-clear-times-requires
+clear-times-requires c κs = tt
+
+bytes-requires-2 : tie.Need-bytes-requires-2
+bytes-requires-2 c κs = tt
+
+clear-shorts-requires : tie.Need-clear-shorts-requires
+clear-shorts-requires c κs = tt
+
+same-length : tie.Need-same-length
+same-length c = c .before .before .before .before .before .before .before .before .before .before .before .before .machines .given
+
+same-length-2 : tie.Need-same-length-2
+same-length-2 c = c .before .before .before .before .before .before .before .before .times .given
+
+same-length-3 : tie.Need-same-length-3
+same-length-3 c = c .before .before .before .before .before .kinds .given
+
+same-length-4 : tie.Need-same-length-4
+same-length-4 c = c .before .steps .given
+
+returns : tie.Need-returns
+returns c = (c .before .before .before .before .before .before .before .before .before .before .before .before .before .bytes .ensures, (c .before .before .before .before .before .before .before .before .before .clear-times .ensures, (c .before .before .before .before .before .before .bytes2 .ensures, c .before .before .clear-shorts .ensures)))
+
+pub clear-outputs-spec : {M : Type 1} → statement M
+clear-outputs-spec =
+    tie.close
+    (tie.spec
+    bytes-requires
+    clear-times-requires
+    bytes-requires-2
+    clear-shorts-requires
+    same-length
+    same-length-2
+    same-length-3
+    same-length-4
+    returns)

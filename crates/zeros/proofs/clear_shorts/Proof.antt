@@ -1,0 +1,52 @@
+-- `zeros::clear_shorts` meets its contract: the elements passed are zeros. Assumes nothing.
+use Prim.Native.Nat.{_-_}
+use lib.ListN.{length}
+use Rattle.graphs.specs.laws.Clear.{Cleared, clear-start, clear-more, clear-all}
+use native.Mathlib.Omega.{arith}
+use Rattle.zeros.proofs.clear_shorts.Statement.{statement}
+use Rattle.zeros.proofs.clear_shorts.Tie as tie
+
+abbrev Inv-loop : tie.InvT-loop
+Inv-loop out₀ i₀ out i = Cleared 0 (length out₀) out i
+
+abbrev μ-loop : tie.MeasureT-loop
+μ-loop out₀ i₀ out i = length out₀ - i
+
+loop-holds : tie.Need-loop-holds Inv-loop μ-loop
+loop-holds c = clear-start _ _
+
+mul-shorts : tie.Need-mul-shorts Inv-loop μ-loop
+mul-shorts c = omega (arith, c .before .loop .inv .whole, c .before .before .good)
+
+slice-write-shorts : tie.Need-slice-write-shorts Inv-loop μ-loop
+slice-write-shorts c = omega (arith, c .before .loop .inv .whole)
+
+add-i : tie.Need-add-i Inv-loop μ-loop
+add-i c = omega (arith, c .before .loop .inv .whole)
+
+loop-less : tie.Need-loop-less Inv-loop μ-loop
+loop-less c = omega (arith, c .before .loop .inv .whole)
+
+loop-again : tie.Need-loop-again Inv-loop μ-loop
+loop-again c = clear-more (c .before .loop .inv) (omega (arith, c .before .loop .inv .whole))
+
+same-length : tie.Need-same-length Inv-loop μ-loop
+same-length c = c .before .loop .inv .whole
+
+returns : tie.Need-returns Inv-loop μ-loop
+returns c = clear-all (c .before .loop .inv) (omega (arith, c .before .loop .inv .whole))
+
+pub clear-shorts-spec : {M : Type 1} → statement M
+clear-shorts-spec =
+    tie.close
+    (tie.spec
+    Inv-loop
+    μ-loop
+    loop-holds
+    mul-shorts
+    slice-write-shorts
+    add-i
+    loop-less
+    loop-again
+    same-length
+    returns)

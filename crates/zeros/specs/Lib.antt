@@ -1,0 +1,2 @@
+-- Memories of zeros. In reading order.
+pub mod laws

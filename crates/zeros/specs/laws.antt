@@ -1,0 +1,2 @@
+-- Laws for the proofs.
+pub mod Fronts
