@@ -2,16 +2,19 @@
 
     inputs.py FOLDER          writes NAME.json (absent: no manifest), NAME.bits and the list of names
     inputs.py table < TIMES   prints the table of the lines that `time inputs` printed
+    inputs.py page KIND < SECTION    writes docs/TIMINGS.md, with this section of a kind of machine and those of other kinds as they were
 
 Sheets are written by tests/second/sheet.py.
 """
 import json
 import math
 import os
+import pathlib
 import random
 import sys
 
-sys.path.insert(0, os.path.join(os.path.dirname(os.path.abspath(__file__)), '..', 'tests', 'second'))
+HERE = os.path.dirname(os.path.abspath(__file__))
+sys.path.insert(0, os.path.join(HERE, '..', 'tests', 'second'))
 from sheet import End, Event, File, Snapshot, Source, bits_of, packed  # noqa: E402
 
 LONGEST = 65536
@@ -202,8 +205,19 @@ def table(lines):
         print('| ' + ' | '.join(padded) + ' |')
 
 
+def page(kind, section):
+    frame = pathlib.Path(HERE, 'TIMINGS.in').read_text(encoding='utf-8')
+    path = pathlib.Path(HERE, '..', 'docs', 'TIMINGS.md')
+    sections = dict(part.split('\n', 1) for part in path.read_text(encoding='utf-8').split('\n## ')[1:])
+    sections[kind] = section
+    text = '\n\n'.join(f'## {name}\n\n{sections[name].strip()}' for name in sorted(sections))
+    path.write_text(frame.replace('@SECTIONS@', text), encoding='utf-8')
+
+
 if __name__ == '__main__':
     if sys.argv[1] == 'table':
         table(sys.stdin)
+    elif sys.argv[1] == 'page':
+        page(sys.argv[2], sys.stdin.read())
     else:
         write(sys.argv[1])

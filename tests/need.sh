@@ -4,7 +4,7 @@ need() { # COMMAND PACKAGE...
     shift
     command -v "$command" >/dev/null && return
     if [ "$(id -u)" -eq 0 ] && command -v apt-get >/dev/null; then
-        apt-get install -y "$@" >/dev/null 2>&1 || { apt-get update >/dev/null 2>&1 && apt-get install -y "$@" >/dev/null 2>&1; }
+        apt-get -o DPkg::Lock::Timeout=300 install -y "$@" >/dev/null 2>&1 || { apt-get update >/dev/null 2>&1 && apt-get -o DPkg::Lock::Timeout=300 install -y "$@" >/dev/null 2>&1; }
     fi
     command -v "$command" >/dev/null && return
     echo "$command is needed (Debian's packages: $*)"

@@ -4,11 +4,15 @@ The modules are those that the crate's library carries, from the check that prov
 An edit passes if the prover refuses the crate with it and its first complaint is about a fact: a complaint that a name which the prover makes
 for the code's shape is gone says only that the shape changed, and the edit fails. The prover takes a module only where it is up to date and
 checks it anew otherwise, so no refusal can come from the modules; that what is right is proved in this way is seen on one crate, which is tried without an
-edit. Where `rt ci` has run, the logs of the edits that it tried are read in the same way.
+edit. Where `rt ci` has run, the logs of the files that it tried are read in the same way.
 
 Edits in the bodies of different functions are tried together first: a proof rests on the contracts of other functions, never on their bodies, so what
-the prover finds false in a function's proof comes from that function's edit. Each edit that such a run does not show refused is tried alone."""
+the prover finds false in a function's proof comes from that function's edit. Each edit that such a run does not show refused is tried alone.
+
+A file holds one edit, which has the file's name, or several, each behind a line `edit: NAME`. rt tries all edits of a file in one check, so those are in
+the bodies of different functions too, and its log must show each of them refused."""
 import concurrent.futures
+import dataclasses
 import os
 import pathlib
 import re
@@ -25,10 +29,14 @@ WORK = TARGET / "edits"
 SHAPE = re.compile(r"that can be named from here|has no field `|expected type `tie\.Need-")
 # What it says of a proof that cites another one which it refused.
 CITES = "was not admitted"
-# A complaint, with the folder of the proof that it is in, if it is in one.
-COMPLAINT = re.compile(r"^(?:proofs/([^/\n]+)/)?[^ \n]*: error: .*", re.M)
-# A function with a contract: its name and its body.
-FUNCTION = re.compile(r'^(?:pub )?(?:extern "C" )?fn (\w+)(?:(?!^\}$).)*?^\{\n(.*?)^\}$', re.M | re.S)
+# A complaint about a proof, or anything else, with where it stands.
+COMPLAINT = re.compile(r"^(?:proofs/(\S+)/Proof\.antt:)?\S*: error: .*", re.M)
+# A function whose proof the prover looks for by itself, and what it did not find.
+MISSED = re.compile(r"^fn \w+::([\w:]+): no proof: .*`search` does not close `.*", re.M)
+# A function or a method with a contract: its indent, its name and its body.
+FUNCTION = re.compile(r'^( *)(?:pub )?(?:extern "C" )?fn (\w+)(?:(?!^\1\}$).)*?^\1\{\n(.*?)^\1\}$', re.M | re.S)
+# A type's methods.
+METHODS = re.compile(r"^impl (\w+) \{$", re.M)
 
 
 def crates_below():
@@ -77,41 +85,52 @@ def copy_crate(crate, folder):
             shutil.copytree(pathlib.Path("crates") / crate / part, folder / part)
 
 
-def changes(edit):
-    """The changes of an edit: file, old and new text of each."""
-    name = old = None
-    found = []
-    for line in edit.read_text(encoding="utf-8").splitlines():
-        if line.startswith("file: "):
-            name = line[len("file: "):]
+@dataclasses.dataclass(frozen=True)
+class Edit:
+    """A change of a crate that must be refused: its name, and the file, the old and the new text of each place."""
+    name: str
+    changes: tuple
+
+
+def edits_of(path):
+    """The edits of a file."""
+    parts = [(path.stem, [])]
+    file = old = None
+    for line in path.read_text(encoding="utf-8").splitlines():
+        if line.startswith("edit: "):
+            parts.append((line[len("edit: "):], []))
+        elif line.startswith("file: "):
+            file = line[len("file: "):]
         elif line.startswith("old: "):
             old = line[len("old: "):]
         elif line.startswith("new:"):
-            found.append((name, old, line[len("new:"):].removeprefix(" ")))
+            parts[-1][1].append((file, old, line[len("new:"):].removeprefix(" ")))
             old = None
-    return found
+    return [Edit(name, tuple(changes)) for name, changes in (parts[1:] or parts)]
 
 
 def apply(edit, folder):
     """Applies an edit to a copy of its crate, as rt does; what is wrong with the edit, if anything."""
-    found = changes(edit)
-    for name, old, new in found:
+    for name, old, new in edit.changes:
         text = (folder / name).read_text(encoding="utf-8")
         if not old or text.count(old) != 1:
             return f"its old text is in {name} {text.count(old) if old else 0} times"
         (folder / name).write_text(text.replace(old, new), encoding="utf-8")
-    return None if found else "it has no old and new"
+    return None if edit.changes else "it has no old and new"
 
 
 def proof_of(crate, edit):
-    """The folder of the proof of the function whose body has all that an edit changes; None if there is no such function or folder."""
+    """The proof of the function whose body has all that an edit changes, by its folder or, where the prover makes it, by the name that the folder would have.
+
+    None if there is no such function."""
     home = pathlib.Path("crates") / crate
     text = (home / "src" / "lib.rt").read_text(encoding="utf-8")
-    proofs = {name: folder.name for folder in (home / "proofs").glob("*/") for name in folder.name.split("+")}
-    found = changes(edit)
+    # Functions that call one another have one proof, whose folder has all their names.
+    joint = {name: folder.name for folder in (home / "proofs").glob("+*/") for name in folder.name.split("+")}
     for function in FUNCTION.finditer(text):
-        if found and all(name == "src/lib.rt" and old and old in function[2] for name, old, _ in found):
-            return proofs.get(function[1])
+        if edit.changes and all(name == "src/lib.rt" and old and old in function[3] for name, old, _ in edit.changes):
+            of = [found[1] + "/" for found in METHODS.finditer(text, 0, function.start())] if function[1] else []
+            return joint.get(function[2], "".join(of[-1:]) + function[2])
     return None
 
 
@@ -147,10 +166,10 @@ def run(crate, edits, folder, kept):
 
 def verdict(status, out):
     """Whether an edit was refused as it must be, and the first complaint."""
-    said = out.splitlines()
-    # A function without a proof file is proved by a search of the prover's own; where that fails there is only a note or the function's line.
+    # What is false, and what a search of the prover's own did not find for a function without a proof file, before what only follows from that.
+    said = [line[0] for line in COMPLAINT.finditer(out) if CITES not in line[0]] + [line[0] for line in MISSED.finditer(out)] + out.splitlines()
     wanted = (": error", "note: ", ": not proved", ": no proof")
-    first = next((line for want in wanted for line in said if want in line), "")
+    first = next((line for line in said if any(want in line for want in wanted)), "")
     if status == 0:
         return False, "NOT REFUSED: the crate is still proved with it"
     if status != 1 or "\nlogic=not-proved" not in out:
@@ -166,32 +185,32 @@ def shown(some, status, out):
     """The edits of a list that a run with all of them shows refused, with the complaint of each.
 
     None of them if the prover found something false elsewhere: a complaint there must be that a proof cites a refused one."""
-    found = {}
-    for line in COMPLAINT.finditer(out):
-        if CITES in line[0]:
-            continue
-        if line[1] not in some:
-            return {}
-        found.setdefault(line[1], line[0])
     if status != 1 or "\nlogic=not-proved" not in out:
         return {}
+    told = [(line[1], line[0]) for line in COMPLAINT.finditer(out) if CITES not in line[0]]
+    told += [(line[1].replace("::", "/"), line[0]) for line in MISSED.finditer(out)]
+    if any(proof not in some for proof, _ in told):
+        return {}
+    found = {}
+    for proof, line in told:
+        found.setdefault(proof, line)
     return {some[proof]: line for proof, line in found.items() if not SHAPE.search(line)}
 
 
 def attempt(crate, some, kept):
     """Tries a list of edits of a crate together; a line about each that is shown refused, and the edits that are left."""
     began = time.monotonic()
-    folder = WORK / f"{crate}.{next(iter(some.values())).stem}.together"
+    folder = WORK / f"{crate}.{next(iter(some.values())).name}.together"
     bad, status, out = run(crate, some.values(), folder, kept)
     found = {} if bad else shown(some, status, out)
     took = f"{time.monotonic() - began:.0f} s, {len(some)} together"
-    return [f"{crate}/{edit.stem}: refused ({took}): {line[:160]}" for edit, line in found.items()], [edit for edit in some.values() if edit not in found]
+    return [f"{crate}/{edit.name}: refused ({took}): {line[:160]}" for edit, line in found.items()], [edit for edit in some.values() if edit not in found]
 
 
 def attempt_alone(crate, edit, kept):
     """Tries an edit of a crate, or the crate itself; a line about it and whether it passed."""
     began = time.monotonic()
-    name = f"{crate}/{edit.stem}" if edit else crate
+    name = f"{crate}/{edit.name}" if edit else crate
     bad, status, out = run(crate, [edit] if edit else [], WORK / name.replace("/", "."), kept)
     took = f"{time.monotonic() - began:.0f} s"
     if bad:
@@ -204,30 +223,40 @@ def attempt_alone(crate, edit, kept):
     return f"{name}: proved without an edit ({took})", True
 
 
+def logged(crate, path):
+    """Why `rt ci` refused each edit of a file, from the log that it leaves: the edit, whether it was refused as it must be, and the complaint."""
+    edits = edits_of(path)
+    log = TARGET / "must-fail" / crate / path.stem / ".log"
+    if not log.is_file():
+        return [(edit, False, "rt has not tried it") for edit in edits]
+    out = log.read_text(encoding="utf-8", errors="replace").replace(f"{log.parent.resolve()}/", "")
+    if len(edits) == 1:
+        return [(edits[0], *verdict(1, out))]
+    some = {proof_of(crate, edit): edit for edit in edits}
+    found = shown(some, 1, out) if len(some) == len(edits) and None not in some else {}
+    return [(edit, edit in found, found.get(edit, "BAD EDIT: the check of all edits of its file does not show it refused")[:160]) for edit in edits]
+
+
 def read_logs():
-    """Reads why `rt ci` refused the edits in must-fail/ itself, from the logs that it leaves; a line for each and how many failed."""
+    """A line for each edit that `rt ci` tried, those in must-fail/ itself, and how many failed."""
     lines, failed = [], 0
-    for edit in sorted(pathlib.Path("crates").glob("*/must-fail/*.edit")):
-        crate = edit.parts[1]
-        log = TARGET / "must-fail" / crate / edit.stem / ".log"
-        good, why = False, "rt has not tried it"
-        if log.is_file():
-            good, why = verdict(1, log.read_text(encoding="utf-8", errors="replace").replace(f"{log.parent.resolve()}/", ""))
-        failed += not good
-        lines.append(f"{crate}/{edit.stem}: {'refused by rt' if good else 'FAILED'}: {why}")
+    for path in sorted(pathlib.Path("crates").glob("*/must-fail/*.edit")):
+        crate = path.parts[1]
+        for edit, good, why in logged(crate, path):
+            failed += not good
+            lines.append(f"{crate}/{edit.name}: {'refused by rt' if good else 'FAILED'}: {why}")
     return lines, failed
 
 
 def chosen(words):
     """The edits to try, by crate: all in more/, or those that are named (there or in must-fail/ itself)."""
     edits = {}
+    folders = ["must-fail/more", "must-fail"] if words else ["must-fail/more"]
     for word in words or ["*"]:
         crate, _, name = word.partition("/")
-        folders = ["must-fail/more"] if not words else ["must-fail/more", "must-fail"]
-        for folder in folders:
-            for path in sorted(pathlib.Path("crates").glob(f"{crate}/{folder}/{name or '*'}.edit")):
-                edits.setdefault(path.parts[1], []).append(path)
-    return edits
+        for path in (path for folder in folders for path in sorted(pathlib.Path("crates").glob(f"{crate}/{folder}/*.edit"))):
+            edits.setdefault(path.parts[1], []).extend(edit for edit in edits_of(path) if name in ("", edit.name))
+    return {crate: found for crate, found in edits.items() if found}
 
 
 def attempts(edits, kept):

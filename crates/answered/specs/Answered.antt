@@ -14,7 +14,7 @@ use Rattle.merged.specs.declared.Answer.the-variants.{Merged}
 use Rattle.checks.specs.Machines.{machineTable}
 use Rattle.lines.specs.Lines.{clockBy, eventsAt, over, reach}
 use Rattle.placed.specs.declared.Given.{Given}
-use Rattle.known.specs.declared.Known.{Known}
+use Rattle.placed.specs.declared.Known.{Known}
 
 -- a byte holds at most 255
 abbrev pub asByte : ℕ → ℕ

@@ -11,12 +11,12 @@ ghost use Rattle.merged.specs.Merged.{padded};
 ghost use Rattle.placed.specs.Placed.{worldIn, cells};
 ghost use Rattle.answered.specs.Answered.{asByte, machinesIn, clocksIn, readingsIn, summed, eventsIn};
 ghost use Rattle.answered.specs.laws.Marks.{Marked};
-use known::Known;
 use merged::Answer;
 use merged::Summary;
 use merged::Trace;
 use numbers::Clock;
 use placed::Given;
+use placed::Known;
 
 // The most sources of a sheet.
 const SOURCES: usize = 32;

@@ -101,15 +101,15 @@ fn by_bytes(s: &[u8], at: usize, w: usize) -> u64
     v
 }
 
-// The w bits at position `at` as a number: 64 at once where the slice has a ninth byte, since most fields of that width do.
+// The w bits at position `at` as a number: the first of 64 that are read at once where the slice has a ninth byte, as it mostly has.
 fn gather(s: &[u8], at: usize, w: usize) -> u64
     requires { ⌜ (w ≤ 64) × (at + w < 2 ^ 64) ⌝ }
     ensures { λ r. ⌜ r ≡ number (now (s .entry)) at w ⌝ }
 {
     let i = at / 8;
-    if w == 64 {
+    if 0 < w {
         if i + 9 <= s.len() {
-            return word(s, i, at % 8);
+            return word(s, i, at % 8) >> (64 - w);
         }
     }
     by_bytes(s, at, w)

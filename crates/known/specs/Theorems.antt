@@ -13,8 +13,8 @@ use Rattle.sheet.specs.declared.Sheet.{Sheet}
 use Rattle.sheet.specs.declared.Sheet.the-variants.{Refused as SheetRefused, Listed}
 use Rattle.merged.specs.Refusals.{checks, firstOf}
 use Rattle.checks.specs.Table.{factsBy}
-use Rattle.known.specs.declared.Told.{Told}
-use Rattle.known.specs.declared.Told.the-variants.{Refused, Accepted}
+use Rattle.placed.specs.declared.Told.{Told}
+use Rattle.placed.specs.declared.Told.the-variants.{Refused, Accepted}
 use Rattle.known.specs.Known.{verdict, factTable, givenIn, told}
 use Rattle.known.specs.laws.Verdicts.{by-manifest, by-sheet, by-both, by-none}
 

@@ -8,22 +8,11 @@ ghost use Rattle.merged.specs.Merged.{padded};
 ghost use Rattle.known.specs.Known.{tableIn, verdict, givenBy, factTable, linksIn, told};
 ghost use Rattle.known.specs.laws.Drawn.{Drawn};
 use placed::Given;
+use placed::Known;
+use placed::Told;
 use sheet::Run;
 use sheet::Sheet;
 use sheet::Table;
-
-// What an accepted manifest and an accepted sheet that fit each other give beside the lists.
-pub struct Known {
-    pub sources: usize,
-    pub at: u32,
-    pub given: Given,
-}
-
-// What reading both gives.
-pub enum Told {
-    Refused(u8),
-    Accepted(Known),
-}
 
 // A number as a byte, or the largest byte where it is larger.
 fn byte(n: usize) -> u8

@@ -20,6 +20,19 @@ pub struct Given {
     pub trace: Clock,
 }
 
+// What an accepted manifest and an accepted sheet that fit each other give beside the lists.
+pub struct Known {
+    pub sources: usize,
+    pub at: u32,
+    pub given: Given,
+}
+
+// What is told of both.
+pub enum Told {
+    Refused(u8),
+    Accepted(Known),
+}
+
 // A count, or a limit where it is larger.
 fn at_most(n: usize, limit: usize) -> usize
     ensures { λ r. ⌜ r ≡ min n limit ⌝ }

@@ -8,9 +8,9 @@ use Rattle.numbers.specs.Numbers.{clocks}
 use Rattle.clocks.specs.Answers.{Filled}
 use Rattle.merged.specs.Merged.{Room, Outcome, padded, refusedBy}
 use Rattle.placed.specs.Placed.{worldIn}
-use Rattle.known.specs.declared.Known.{Known}
-use Rattle.known.specs.declared.Told.{Told}
-use Rattle.known.specs.declared.Told.the-variants.{Refused, Accepted}
+use Rattle.placed.specs.declared.Known.{Known}
+use Rattle.placed.specs.declared.Told.{Told}
+use Rattle.placed.specs.declared.Told.the-variants.{Refused, Accepted}
 use Rattle.answered.specs.Answered.{machinesIn, eventsIn, summed}
 use Rattle.joins.specs.Joined.{roomyFor}
 

@@ -5,9 +5,9 @@ ghost use lib.Dec.{leb};
 ghost use lib.IntN.{pos};
 ghost use lib.ListN.{length, replicate};
 ghost use Rattle.settled.specs.Settled.{roomIn, fittedIn, settledIn};
-use known::Known;
-use known::Told;
 use merged::Answer;
+use placed::Known;
+use placed::Told;
 
 // A byte for each two clocks.
 const CELLS: usize = numbers::CLOCKS * numbers::CLOCKS;

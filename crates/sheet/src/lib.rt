@@ -3,12 +3,13 @@ ghost use mathlib.Core.Path.{_≡_};
 ghost use Prim.Native.Nat.{_+_, _*_, _<_, _≤_};
 ghost use lib.ListN.{length};
 ghost use Rattle.records.specs.Layout.{bytesAt, pathHere, sourceHere, fileHere, sizeOf};
-ghost use Rattle.records.specs.Readers.{pathAt};
+ghost use Rattle.records.specs.Readers.{headAt, pathAt};
 ghost use Rattle.sheet.specs.Twice.{sameBytes, sameSource, among, repeats};
 ghost use Rattle.sheet.specs.Places.{pathsFrom, sourcesFrom, filePlaces};
 ghost use Rattle.sheet.specs.Sheets.{readOf};
 ghost use Rattle.sheet.specs.laws.Ended.{Held, endedOf, tableAt};
 use bits::Cursor;
+use records::Head;
 use records::State;
 use records::Step;
 
@@ -115,13 +116,11 @@ fn same_bytes(s: &[u8], a: usize, b: usize, n: usize) -> bool
     true
 }
 
-// Whether the files at a and b have one path: their lengths settle most pairs.
-fn paths_match(s: &[u8], a: usize, b: usize) -> bool
-    requires { ⌜ (a < 0x1000000000) × (b < 0x1000000000) ⌝ }
+// Whether the files at a and b, whose heads are g and h, have one path: their lengths settle most pairs.
+fn paths_match(s: &[u8], a: usize, g: Head, b: usize, h: Head) -> bool
+    requires { ⌜ (a < 0x1000000000) × (b < 0x1000000000) × (g ≡ headAt (now s) a) × (h ≡ headAt (now s) b) ⌝ }
     ensures { λ r. ⌜ r ≡ sameBytes (pathHere (now (s .entry)) a) (pathHere (now (s .entry)) b) ⌝ }
 {
-    let g = records::head_at(s, a);
-    let h = records::head_at(s, b);
     let n = g.length;
     let m = h.length;
     if n != m {
@@ -153,13 +152,20 @@ pub fn same_path(s: &[u8], at: usize, t: &[u8]) -> bool
     true
 }
 
+// The bit position past a file at a with the head h.
+fn past_head(a: usize, h: Head) -> usize
+    requires { ⌜ a < 0x1000000000 ⌝ }
+    ensures { λ r. ⌜ (r ≡ a + (15 + 8 * (h .length))) × (r ≤ a + 2055) ⌝ }
+{
+    a + (15 + 8 * wide(h.length))
+}
+
 // The bit position past the file at a.
 fn past_file(s: &[u8], a: usize) -> usize
     requires { ⌜ a < 0x1000000000 ⌝ }
     ensures { λ r. ⌜ (r ≡ a + sizeOf (fileHere (now (s .entry)) a)) × (r ≤ a + 2055) ⌝ }
 {
-    let h = records::head_at(s, a);
-    a + (15 + 8 * wide(h.length))
+    past_head(a, records::head_at(s, a))
 }
 
 // The bit position of each of the first n files, and 0 past them, so that each is reached in one step.
@@ -184,13 +190,15 @@ fn path_again(s: &[u8], a: usize, from: usize, n: usize) -> bool
     requires { ⌜ (a < 0x1000000000) × (n ≤ 32) × (from + 2055 * n < 0x1000000000) ⌝ }
     ensures { λ r. ⌜ r ≡ among sameBytes (pathHere (now (s .entry)) a) (pathsFrom (now (s .entry)) from n) ⌝ }
 {
+    let g = records::head_at(s, a);
     let mut p = from;
     let mut left = n;
     while 0 < left {
-        if paths_match(s, a, p) {
+        let h = records::head_at(s, p);
+        if paths_match(s, a, g, p, h) {
             return true;
         }
-        p = past_file(s, p);
+        p = past_head(p, h);
         left -= 1;
     }
     false

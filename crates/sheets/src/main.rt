@@ -1,10 +1,148 @@
-// Sheets for each way to each refusal, and good ones, with what document 01 says of each. One line is written for each: what is asked of reading,
-// and whether reading answers so.
+// What `sheet::read` says of each sheet on standard input, a line each: its name, and its refusal or its table. Then what the readers give of
+// single records of one sheet, and whether it is what was written there.
+// A line of the input is empty; or a comment, from `#` on; or a name, a colon, and the sheet's bytes, each as two hexadecimal digits in lower
+// case. `=` is as many zero bytes as bring the sheet to 65,536 bytes. Any other byte is passed over.
+ghost use mathlib.Core.Path.{_≡_};
+ghost use Prim.Native.Nat.{_<_, _≤_};
+ghost use lib.ListN.{length};
 use sheet::Run;
 use sheet::Sheet;
 use sheet::Table;
 
-// The line of one trial.
+// A byte that a line stands for, and the position past it.
+struct Piece {
+    byte: u8,
+    past: usize,
+}
+
+// The position of the first byte b from a position on, below an end; else the end.
+fn find(s: &[u8], b: u8, from: usize, end: usize) -> usize
+    requires { ⌜ (from ≤ end) × (end ≤ length (now s)) ⌝ }
+    ensures { λ r. ⌜ (from ≤ r) × (r ≤ end) ⌝ }
+{
+    let mut i = from;
+    while i < end {
+        if s[i] == b {
+            return i;
+        }
+        i += 1;
+    }
+    i
+}
+
+// The value of a hexadecimal digit; 16 of any other byte, a bit that no digit has.
+fn digit(b: u8) -> u8 {
+    match b {
+        b'0'..=b'9' => b - b'0',
+        b'a'..=b'f' => b - b'a' + 10,
+        _ => 16,
+    }
+}
+
+// The byte that two digits at a position stand for, and the position past them, which is the same one where there are none.
+fn piece_at(s: &[u8], at: usize, end: usize) -> Piece
+    requires { ⌜ (at < end) × (end ≤ length (now s)) ⌝ }
+    ensures { λ r. ⌜ r .past ≤ end ⌝ }
+{
+    if end - at > 1 {
+        let high = digit(s[at]);
+        let low = digit(s[at + 1]);
+        if (high | low) < 16 {
+            return Piece {
+                byte: high << 4 | low,
+                past: at + 2,
+            };
+        }
+    }
+    Piece { byte: 0, past: at }
+}
+
+// How long a sheet of n bytes is past a byte of the line that is in no pair: `=` brings it to 65,536 bytes.
+fn filled(n: usize, b: u8) -> usize
+    requires { ⌜ n ≤ 65537 ⌝ }
+    ensures { λ r. ⌜ r ≤ 65537 ⌝ }
+{
+    if b == b'=' && n < 65536 { 65536 } else { n }
+}
+
+// The sheet that a part of a line stands for, as far as there is room; how many bytes it has. The room is zeros, so that `=` has nothing to write.
+fn bytes(s: &[u8], from: usize, end: usize, m: &mut [u8; 65537]) -> usize
+    requires { ⌜ (from ≤ end) × (end ≤ length (now s)) × (length (now m) ≡ 65537) ⌝ }
+    ensures { λ r. ⌜ (r ≤ 65537) × (length (now (m .exit)) ≡ 65537) ⌝ }
+{
+    let mut i = from;
+    let mut n: usize = 0;
+    while i < end && n < 65537 {
+        let p = piece_at(s, i, end);
+        if i < p.past {
+            m[n] = p.byte;
+            n += 1;
+            i = p.past;
+        } else {
+            n = filled(n, s[i]);
+            i += 1;
+        }
+    }
+    n
+}
+
+// A number behind what it counts.
+fn tell_number(what: &[u8], n: u64) {
+    io::write_all(1, what);
+    io::print_decimal(1, n);
+}
+
+// How many records of a kind there are, and where the first lies.
+fn tell_run(kind: &[u8], r: Run) {
+    tell_number(kind, r.count as u64);
+    tell_number(b" at ", r.at as u64);
+}
+
+// What an accepted sheet holds.
+fn tell_table(t: Table) {
+    tell_number(b": files ", t.files as u64);
+    tell_run(b" sources ", t.sources);
+    tell_run(b" snapshots ", t.snapshots);
+    tell_run(b" events ", t.events);
+}
+
+// One line for a sheet.
+fn tell(name: &[u8], m: &[u8]) {
+    io::write_all(1, name);
+    match sheet::read(m) {
+        Sheet::Refused(k) => {
+            tell_number(b": refused ", k as u64);
+        }
+        Sheet::Listed(t) => {
+            tell_table(t);
+        }
+    }
+    io::write_all(1, b"\n");
+}
+
+// A line of the input that is neither empty nor a comment. The colon is no digit, so that it may stay in front of the bytes.
+fn line(s: &[u8], from: usize, end: usize)
+    requires { ⌜ (from ≤ end) × (end ≤ length (now s)) ⌝ }
+{
+    let colon = find(s, b':', from, end);
+    let mut m: [u8; 65537] = [0; 65537];
+    let n = bytes(s, colon, end, &mut m);
+    tell(&s[from..colon], &m[..n]);
+}
+
+// Every line of the input.
+fn each(s: &[u8]) {
+    let mut at: usize = 0;
+    while at < s.len() {
+        let end = find(s, b'\n', at, s.len());
+        if at < end && s[at] != b'#' {
+            line(s, at, end);
+        }
+        at = end + 1;
+    }
+}
+
+// The line of one trial of a reader.
 fn told(ok: bool, what: &[u8]) {
     io::write_all(1, what);
     if ok {
@@ -14,473 +152,55 @@ fn told(ok: bool, what: &[u8]) {
     }
 }
 
-// A sheet that is refused with k.
-fn refused(k: u8, what: &[u8], s: &[u8]) {
-    match sheet::read(s) {
-        Sheet::Refused(n) => {
-            told(n == k, what);
-        }
-        Sheet::Listed(_) => {
-            told(false, what);
-        }
-    }
-}
-
-// Whether two runs are one.
-fn same_run(a: Run, b: Run) -> bool {
-    a.count == b.count && a.at == b.at
-}
-
-// Whether two tables are one.
-fn same_table(a: Table, b: Table) -> bool {
-    let o = same_run(a.sources, b.sources);
-    let n = same_run(a.snapshots, b.snapshots);
-    let e = same_run(a.events, b.events);
-    a.files == b.files && o && n && e
-}
-
-// A sheet that is accepted, with its table.
-fn listed(t: Table, what: &[u8], s: &[u8]) {
-    match sheet::read(s) {
-        Sheet::Refused(_) => {
-            told(false, what);
-        }
-        Sheet::Listed(u) => {
-            told(same_table(t, u), what);
-        }
-    }
-}
-
-// A table by its numbers: of each kind how many there are, and where the first lies.
-fn table(files: usize, o: Run, n: Run, e: Run) -> Table {
-    Table {
-        files,
-        sources: o,
-        snapshots: n,
-        events: e,
-    }
-}
-
-fn run(count: usize, at: usize) -> Run {
-    Run { count, at }
-}
-
-// Refusal 25, of the size.
-fn of_25() {
-    refused(25, b"25, no bytes", b"");
-}
-
-// Refusal 26: a record or the end is cut off.
-fn of_26() {
-    refused(
-        26,
-        b"26, one bit left where a kind must come",
-        b"\x20\x02\xc2",
-    );
-    refused(
-        26,
-        b"26, no bit left where a kind must come",
-        b"\x20\x02\xc2\x80\x00\x00\x00\x01\x01\x80\x00\x00\x00\x00\x00\x00\x01\x60\x30\x00\x00\x00\x00\x00\x00\x00\x2c\x06\x00\x00\x00\x00\x00\x00\x00\x05",
-    );
-    refused(
-        26,
-        b"26, a kind and nothing more",
-        b"\x20\x02\xc2\x80\x00\x00\x00\x01\x01\x80\x00\x00\x00\x00\x00\x00\x01\x60\x30\x00\x00\x00\x00\x00\x00\x00\x2c",
-    );
-    refused(26, b"26, a file cut in its path length", b"\x20");
-    refused(26, b"26, a path that lacks a byte", b"\x20\x04\xc2");
-    refused(
-        26,
-        b"26, a path of 255 bytes that has 2",
-        b"\x21\xfe\xc2\xc4",
-    );
-    refused(26, b"26, a cut source", b"\x20\x02\xc2\x80\x00\x00\x00");
-}
-
-// Refusal 26, also where another would apply.
-fn of_26_too() {
-    refused(
-        26,
-        b"26, a cut snapshot",
-        b"\x20\x02\xc2\x80\x00\x00\x00\x00\xc0\x40\x00\x00\x00\x00\x00\x00\x02\x90\x00\x00",
-    );
-    refused(
-        26,
-        b"26, a cut event",
-        b"\x20\x02\xc2\x80\x00\x00\x00\x01\x01\x80\x00\x00\x00\x00\x00\x00\x01",
-    );
-    refused(
-        26,
-        b"26, a cut event on clock 7",
-        b"\x20\x02\xc2\x80\x00\x00\x00\x01\x01\xc0\x00\x00",
-    );
-    refused(
-        26,
-        b"26, a cut file after a source",
-        b"\x20\x02\xc2\x80\x00\x00\x00\x00\x40\x0d\x89",
-    );
-    refused(
-        26,
-        b"26, a cut file that is one too many",
-        b"\x20\x02\x82\x40\x05\x08\x80\x0a\x19\x00\x14\x42\x00\x28\xa4\x00\x51\x88\x00\xa3\x90\x01\x48\x20\x02\x92\x40\x05\x28\x80\x0a\x59\x00\x14\xc2\x00\x29\xa4\x00\x53\x88\x00\xa7\x90\x01\x50\x20\x02\xa2\x40\x05\x48\x80\x0a\x99\x00\x15\x42\x00\x2a\xa4\x00\x55\x88\x00\xab\x90\x01\x58\x20\x02\xb2\x40\x05\x68\x80\x0a\xd9\x00\x15\xc2\x00\x2b\xa4\x00\x57\x88\x00\xaf\x90\x01\x60\x20\x04",
-    );
-    refused(
-        26,
-        b"26, records and no end",
-        b"\x20\x02\xc2\x40\x19\xe1\xe1\xe1\xe1\xe1\xe0",
-    );
-}
-
-// Refusal 27: kind 5 to 7, or lower than before.
-fn of_27() {
-    refused(27, b"27, kind 5", b"\xa0");
-    refused(27, b"27, kind 6", b"\xc0");
-    refused(27, b"27, kind 7", b"\x20\x02\xc3\xc0");
-    refused(
-        27,
-        b"27, a file after a source",
-        b"\x20\x02\xc2\x80\x00\x00\x00\x00\x40\x05\x88\x00",
-    );
-    refused(
-        27,
-        b"27, a file after an event",
-        b"\x20\x02\xc2\x80\x00\x00\x00\x01\x01\x80\x00\x00\x00\x00\x00\x00\x01\x48\x00\xb1\x00",
-    );
-    refused(
-        27,
-        b"27, a source after a snapshot",
-        b"\x20\x02\xc2\x80\x00\x00\x00\x00\xc0\x40\x00\x00\x00\x00\x00\x00\x02\x90\x00\x00\x00\x00\x00\x00\x00\xa2\x00\x00\x00\x00\x08",
-    );
-    refused(
-        27,
-        b"27, a snapshot after an event",
-        b"\x20\x02\xc2\x80\x00\x00\x00\x01\x01\x80\x00\x00\x00\x00\x00\x00\x01\x58\x08\x00\x00\x00\x00\x00\x00\x00\x52\x00\x00\x00\x00\x00\x00\x00\x14\x00",
-    );
-    refused(
-        27,
-        b"27, a source of no file after a snapshot",
-        b"\x20\x02\xc2\x80\x00\x00\x00\x00\xc0\x40\x00\x00\x00\x00\x00\x00\x02\x90\x00\x00\x00\x00\x00\x00\x00\xa2\x48\x00\x00\x00\x08",
-    );
-}
-
-// Refusal 28, in files and sources.
-fn of_28() {
-    refused(28, b"28, a path of no bytes", b"\x20\x00\x00");
-    refused(28, b"28, claimed clock 7", b"\x2e\x02\xc2\x00");
-    refused(
-        28,
-        b"28, a container with claimed clock 7",
-        b"\x3e\x02\xc2\x00",
-    );
-    refused(
-        28,
-        b"28, a source with no file before it",
-        b"\x40\x00\x00\x00\x00\x00",
-    );
-    refused(
-        28,
-        b"28, a source of file 1 of one",
-        b"\x20\x02\xc2\x82\x00\x00\x00\x00\x00",
-    );
-    refused(
-        28,
-        b"28, a source of a container",
-        b"\x30\x02\xc2\x80\x00\x00\x00\x00\x00",
-    );
-    refused(
-        28,
-        b"28, a source of the second file, a container",
-        b"\x20\x02\xc2\x60\x05\x89\x04\x00\x00\x00\x00\x00",
-    );
-    refused(
-        28,
-        b"28, claimed clock 7 in a file that is one too many",
-        b"\x20\x02\x82\x40\x05\x08\x80\x0a\x19\x00\x14\x42\x00\x28\xa4\x00\x51\x88\x00\xa3\x90\x01\x48\x20\x02\x92\x40\x05\x28\x80\x0a\x59\x00\x14\xc2\x00\x29\xa4\x00\x53\x88\x00\xa7\x90\x01\x50\x20\x02\xa2\x40\x05\x48\x80\x0a\x99\x00\x15\x42\x00\x2a\xa4\x00\x55\x88\x00\xab\x90\x01\x58\x20\x02\xb2\x40\x05\x68\x80\x0a\xd9\x00\x15\xc2\x00\x2b\xa4\x00\x57\x88\x00\xaf\x90\x01\x60\x2e\x02\xf4\x00",
-    );
-    refused(28, b"28, a wrong file, and then kind 5", b"\x20\x01\x40");
-}
-
-// Refusal 28, in snapshots and events.
-fn of_28_clocks() {
-    refused(
-        28,
-        b"28, a snapshot of source 1 of one",
-        b"\x20\x02\xc2\x80\x00\x00\x00\x00\xc2\x40\x00\x00\x00\x00\x00\x00\x00\x10\x00\x00\x00\x00\x00\x00\x00\x00",
-    );
-    refused(
-        28,
-        b"28, a snapshot with first clock 0",
-        b"\x20\x02\xc2\x80\x00\x00\x00\x00\xc0\x00\x00\x00\x00\x00\x00\x00\x00\x10\x00\x00\x00\x00\x00\x00\x00\x00",
-    );
-    refused(
-        28,
-        b"28, a snapshot with second clock 0",
-        b"\x20\x02\xc2\x80\x00\x00\x00\x00\xc0\x40\x00\x00\x00\x00\x00\x00\x00\x00\x00\x00\x00\x00\x00\x00\x00\x00",
-    );
-    refused(
-        28,
-        b"28, a snapshot with first clock 7",
-        b"\x20\x02\xc2\x80\x00\x00\x00\x00\xc1\xc0\x00\x00\x00\x00\x00\x00\x00\x10\x00\x00\x00\x00\x00\x00\x00\x00",
-    );
-    refused(
-        28,
-        b"28, a snapshot with second clock 7",
-        b"\x20\x02\xc2\x80\x00\x00\x00\x00\xc0\x40\x00\x00\x00\x00\x00\x00\x00\x38\x00\x00\x00\x00\x00\x00\x00\x00",
-    );
-    refused(
-        28,
-        b"28, a snapshot with one clock twice",
-        b"\x20\x02\xc2\x80\x00\x00\x00\x00\xc0\xc0\x00\x00\x00\x00\x00\x00\x00\x58\x00\x00\x00\x00\x00\x00\x00\x10",
-    );
-    refused(
-        28,
-        b"28, an event of source 31 of one",
-        b"\x20\x02\xc2\x80\x00\x00\x00\x01\x3e\x40\x00\x00\x00\x00\x00\x00\x00\x00",
-    );
-    refused(
-        28,
-        b"28, an event on clock 7",
-        b"\x20\x02\xc2\x80\x00\x00\x00\x01\x01\xc0\x00\x00\x00\x00\x00\x00\x00\x00",
-    );
-}
-
-// Refusal 29: a bit set, or a byte, after the end.
-fn of_29() {
-    refused(29, b"29, the first bit after the end", b"\x10");
-    refused(29, b"29, the last bit of the byte", b"\x01");
-    refused(29, b"29, a zero byte after the end", b"\x00\x00");
-    refused(
-        29,
-        b"29, a byte after the end that is not zero",
-        b"\x00\xff",
-    );
-    refused(
-        29,
-        b"29, a bit after the end of records",
-        b"\x20\x02\xc2\x80\x00\x00\x00\x01\x01\x80\x00\x00\x00\x00\x00\x00\x01\x40\x80",
-    );
-    refused(
-        29,
-        b"29, a byte after the end of records",
-        b"\x20\x02\xc2\x80\x00\x00\x00\x01\x01\x80\x00\x00\x00\x00\x00\x00\x01\x40\x00",
-    );
-}
-
-// Refusal 30: one file too many, one source too many.
-fn of_30() {
-    refused(
-        30,
-        b"30, 33 files",
-        b"\x20\x02\x82\x40\x05\x08\x80\x0a\x19\x00\x14\x42\x00\x28\xa4\x00\x51\x88\x00\xa3\x90\x01\x48\x20\x02\x92\x40\x05\x28\x80\x0a\x59\x00\x14\xc2\x00\x29\xa4\x00\x53\x88\x00\xa7\x90\x01\x50\x20\x02\xa2\x40\x05\x48\x80\x0a\x99\x00\x15\x42\x00\x2a\xa4\x00\x55\x88\x00\xab\x90\x01\x58\x20\x02\xb2\x40\x05\x68\x80\x0a\xd9\x00\x15\xc2\x00\x2b\xa4\x00\x57\x88\x00\xaf\x90\x01\x60\x20\x02\xf4\x00",
-    );
-    refused(
-        30,
-        b"30, 33 sources",
-        b"\x20\x02\xc2\x80\x00\x00\x00\x00\x80\x00\x00\x00\x02\x80\x00\x00\x00\x04\x80\x00\x00\x00\x06\x80\x00\x00\x00\x08\x80\x00\x00\x00\x0a\x80\x00\x00\x00\x0c\x80\x00\x00\x00\x0e\x80\x00\x00\x00\x10\x80\x00\x00\x00\x12\x80\x00\x00\x00\x14\x80\x00\x00\x00\x16\x80\x00\x00\x00\x18\x80\x00\x00\x00\x1a\x80\x00\x00\x00\x1c\x80\x00\x00\x00\x1e\x80\x00\x00\x00\x20\x80\x00\x00\x00\x22\x80\x00\x00\x00\x24\x80\x00\x00\x00\x26\x80\x00\x00\x00\x28\x80\x00\x00\x00\x2a\x80\x00\x00\x00\x2c\x80\x00\x00\x00\x2e\x80\x00\x00\x00\x30\x80\x00\x00\x00\x32\x80\x00\x00\x00\x34\x80\x00\x00\x00\x36\x80\x00\x00\x00\x38\x80\x00\x00\x00\x3a\x80\x00\x00\x00\x3c\x80\x00\x00\x00\x3e\x80\x00\x00\x00\xc6\x00",
-    );
-    refused(
-        30,
-        b"30, 33 files, and then a path twice",
-        b"\x20\x02\x82\x40\x05\x08\x80\x0a\x19\x00\x14\x42\x00\x28\xa4\x00\x51\x88\x00\xa3\x90\x01\x48\x20\x02\x92\x40\x05\x28\x80\x0a\x59\x00\x14\xc2\x00\x29\xa4\x00\x53\x88\x00\xa7\x90\x01\x50\x20\x02\xa2\x40\x05\x48\x80\x0a\x99\x00\x15\x42\x00\x2a\xa4\x00\x55\x88\x00\xab\x90\x01\x58\x20\x02\xb2\x40\x05\x68\x80\x0a\xd9\x00\x15\xc2\x00\x2b\xa4\x00\x57\x88\x00\xaf\x90\x01\x60\x20\x02\x82\x00",
-    );
-}
-
-// Refusal 31: a path twice, or a file and id twice.
-fn of_31() {
-    refused(31, b"31, a path twice", b"\x20\x02\xc2\x40\x05\x84\x00");
-    refused(
-        31,
-        b"31, a path twice, not side by side",
-        b"\x20\x02\xc2\x40\x05\x88\x80\x0b\x08",
-    );
-    refused(
-        31,
-        b"31, a path of a file and of a container",
-        b"\x20\x04\xc2\xc4\x40\x05\x88\xd8\x13\x0b\x10",
-    );
-    refused(
-        31,
-        b"31, file and id twice",
-        b"\x20\x02\xc2\x80\x00\x00\x00\x00\x80\x00\x00\x00\x00\x00",
-    );
-    refused(
-        31,
-        b"31, file and id twice, not side by side",
-        b"\x20\x02\xc2\x40\x05\x89\x00\x00\x00\x00\x15\x04\x00\x00\x00\x15\x00\x00\x00\x00\x19\x00\x00\x00\x00\x14\x00",
-    );
-    refused(
-        31,
-        b"31, id 4294967295 twice",
-        b"\x20\x02\xc2\x81\xff\xff\xff\xfe\x81\xff\xff\xff\xfe\x00",
-    );
-}
-
-// Sheets that are accepted.
-fn good() {
-    listed(
-        table(0, run(0, 0), run(0, 0), run(0, 0)),
-        b"accepted, nothing",
-        b"\x00",
-    );
-    listed(
-        table(1, run(1, 23), run(0, 63), run(1, 63)),
-        b"accepted, one file, one source, one event",
-        b"\x2c\x02\xc2\x80\x00\x00\x00\x01\x01\x80\x00\x00\x00\x00\x00\x00\x01\x40",
-    );
-    listed(
-        table(1, run(0, 23), run(0, 23), run(0, 23)),
-        b"accepted, one file",
-        b"\x20\x02\xc2\x00",
-    );
-    listed(
-        table(1, run(0, 23), run(0, 23), run(0, 23)),
-        b"accepted, a container with a claim",
-        b"\x3c\x02\xc2\x00",
-    );
-    listed(
-        table(1, run(1, 23), run(0, 63), run(2, 63)),
-        b"accepted, an end that fills its byte",
-        b"\x20\x02\xc2\x80\x00\x00\x00\x01\x01\x80\x00\x00\x00\x00\x00\x00\x01\x60\x30\x00\x00\x00\x00\x00\x00\x00\x28",
-    );
-}
-
-// Sheets in which nothing is there twice.
-fn good_lists() {
-    listed(
-        table(2, run(2, 46), run(0, 126), run(0, 126)),
-        b"accepted, one id in two files",
-        b"\x20\x02\xc2\x40\x05\x89\x00\x00\x00\x00\x15\x04\x00\x00\x00\x14\x00",
-    );
-    listed(
-        table(2, run(0, 110), run(0, 110), run(0, 110)),
-        b"accepted, paths that differ in their last bytes",
-        b"\x20\x0a\xc2\xc4\xc6\xc8\xca\x40\x15\x85\x89\x8d\x91\x98\x00",
-    );
-    listed(
-        table(2, run(0, 70), run(0, 70), run(0, 70)),
-        b"accepted, a path that another starts with",
-        b"\x20\x04\xc2\xc4\x40\x0d\x85\x89\x8c\x00",
-    );
-    listed(
-        table(1, run(1, 23), run(2, 63), run(0, 347)),
-        b"accepted, a snapshot twice",
-        b"\x20\x02\xc2\x80\x00\x00\x00\x00\xc0\x40\x00\x00\x00\x00\x00\x00\x02\x90\x00\x00\x00\x00\x00\x00\x00\xa3\x01\x00\x00\x00\x00\x00\x00\x00\x0a\x40\x00\x00\x00\x00\x00\x00\x02\x80",
-    );
-    listed(
-        table(1, run(1, 23), run(0, 63), run(2, 63)),
-        b"accepted, an event twice, on the private clock",
-        b"\x20\x02\xc2\x80\x00\x00\x00\x01\x00\x3f\xff\xff\xff\xff\xff\xff\xff\xe0\x07\xff\xff\xff\xff\xff\xff\xff\xf8",
-    );
-}
-
-// Accepted sheets at the limits.
-fn good_and_full() {
-    listed(
-        table(32, run(0, 736), run(0, 736), run(0, 736)),
-        b"accepted, 32 files",
-        b"\x20\x02\x82\x40\x05\x08\x80\x0a\x19\x00\x14\x42\x00\x28\xa4\x00\x51\x88\x00\xa3\x90\x01\x48\x20\x02\x92\x40\x05\x28\x80\x0a\x59\x00\x14\xc2\x00\x29\xa4\x00\x53\x88\x00\xa7\x90\x01\x50\x20\x02\xa2\x40\x05\x48\x80\x0a\x99\x00\x15\x42\x00\x2a\xa4\x00\x55\x88\x00\xab\x90\x01\x58\x20\x02\xb2\x40\x05\x68\x80\x0a\xd9\x00\x15\xc2\x00\x2b\xa4\x00\x57\x88\x00\xaf\x90\x01\x60\x00",
-    );
-    listed(
-        table(1, run(32, 23), run(0, 1303), run(0, 1303)),
-        b"accepted, 32 sources",
-        b"\x20\x02\xc2\x80\x00\x00\x00\x00\x80\x00\x00\x00\x02\x80\x00\x00\x00\x04\x80\x00\x00\x00\x06\x80\x00\x00\x00\x08\x80\x00\x00\x00\x0a\x80\x00\x00\x00\x0c\x80\x00\x00\x00\x0e\x80\x00\x00\x00\x10\x80\x00\x00\x00\x12\x80\x00\x00\x00\x14\x80\x00\x00\x00\x16\x80\x00\x00\x00\x18\x80\x00\x00\x00\x1a\x80\x00\x00\x00\x1c\x80\x00\x00\x00\x1e\x80\x00\x00\x00\x20\x80\x00\x00\x00\x22\x80\x00\x00\x00\x24\x80\x00\x00\x00\x26\x80\x00\x00\x00\x28\x80\x00\x00\x00\x2a\x80\x00\x00\x00\x2c\x80\x00\x00\x00\x2e\x80\x00\x00\x00\x30\x80\x00\x00\x00\x32\x80\x00\x00\x00\x34\x80\x00\x00\x00\x36\x80\x00\x00\x00\x38\x80\x00\x00\x00\x3a\x80\x00\x00\x00\x3c\x80\x00\x00\x00\x3e\x00",
-    );
-    listed(
-        table(1, run(0, 2055), run(0, 2055), run(0, 2055)),
-        b"accepted, a path of 255 bytes",
-        b"\x21\xfe\x02\x04\x06\x08\x0a\x0c\x0e\x10\x12\x14\x16\x18\x1a\x1c\x1e\x20\x22\x24\x26\x28\x2a\x2c\x2e\x30\x32\x34\x36\x38\x3a\x3c\x3e\x40\x42\x44\x46\x48\x4a\x4c\x4e\x50\x52\x54\x56\x58\x5a\x5c\x5e\x60\x62\x64\x66\x68\x6a\x6c\x6e\x70\x72\x74\x76\x78\x7a\x7c\x7e\x80\x82\x84\x86\x88\x8a\x8c\x8e\x90\x92\x94\x96\x98\x9a\x9c\x9e\xa0\xa2\xa4\xa6\xa8\xaa\xac\xae\xb0\xb2\xb4\xb6\xb8\xba\xbc\xbe\xc0\xc2\xc4\xc6\xc8\xca\xcc\xce\xd0\xd2\xd4\xd6\xd8\xda\xdc\xde\xe0\xe2\xe4\xe6\xe8\xea\xec\xee\xf0\xf2\xf4\xf6\xf8\xfa\xfc\xff\x01\x03\x05\x07\x09\x0b\x0d\x0f\x11\x13\x15\x17\x19\x1b\x1d\x1f\x21\x23\x25\x27\x29\x2b\x2d\x2f\x31\x33\x35\x37\x39\x3b\x3d\x3f\x41\x43\x45\x47\x49\x4b\x4d\x4f\x51\x53\x55\x57\x59\x5b\x5d\x5f\x61\x63\x65\x67\x69\x6b\x6d\x6f\x71\x73\x75\x77\x79\x7b\x7d\x7f\x81\x83\x85\x87\x89\x8b\x8d\x8f\x91\x93\x95\x97\x99\x9b\x9d\x9f\xa1\xa3\xa5\xa7\xa9\xab\xad\xaf\xb1\xb3\xb5\xb7\xb9\xbb\xbd\xbf\xc1\xc3\xc5\xc7\xc9\xcb\xcd\xcf\xd1\xd3\xd5\xd7\xd9\xdb\xdd\xdf\xe1\xe3\xe5\xe7\xe9\xeb\xed\xef\xf1\xf3\xf5\xf7\xf9\xfb\xfd\xfe\x00",
-    );
-    listed(
-        table(3, run(0, 77), run(0, 77), run(0, 77)),
-        b"accepted, paths of any bytes",
-        b"\x20\x02\x00\x40\x07\xfc\x80\x16\x19\x40",
-    );
-}
-
-// Sheets that are too long, or as long as they may be.
-fn long_sheets() {
-    let z = [0u8; 65537];
-    refused(25, b"25, 65537 bytes", &z);
-    refused(29, b"29, 65536 bytes of zeros", &z[..65536]);
-}
-
-// Byte i of a sheet that starts with a file, a source and snapshots that are alike, so that they repeat every 71 bytes.
-fn snapshot_byte(head: &[u8], i: usize) -> u8 {
-    let turn =
-        b"\xc0\x40\x00\x00\x00\x00\x00\x00\x02\x90\x00\x00\x00\x00\x00\x00\x00\xa3\x01\x00\x00\x00\x00\x00\x00\x00\x0a\x40\x00\x00\x00\x00\x00\x00\x02\x8c\x04\x00\x00\x00\x00\x00\x00\x00\x29\x00\x00\x00\x00\x00\x00\x00\x0a\x30\x10\x00\x00\x00\x00\x00\x00\x00\xa4\x00\x00\x00\x00\x00\x00\x00\x28";
-    let n = head.len();
-    if i < n { head[i] } else { turn[(i - n) % 71] }
-}
-
-// 4570 bytes of such a sheet, with no end.
-fn snapshots(head: &[u8]) -> [u8; 4570] {
-    let mut s = [0u8; 4570];
-    let mut i: usize = 0;
-    while i < 4570 {
-        s[i] = snapshot_byte(head, i);
-        i += 1;
-    }
-    s
-}
-
-// One snapshot too many, and as many as may be behind a path of 18 bytes.
-fn many_snapshots() {
-    let mut s = snapshots(b"\x20\x02\xc2\x80\x00\x00\x00\x00");
-    s[4569] = 160;
-    refused(30, b"30, 257 snapshots", &s);
-    let mut u = snapshots(
-        b"\x20\x24\xe0\xe0\xe0\xe0\xe0\xe0\xe0\xe0\xe0\xe0\xe0\xe0\xe0\xe0\xe0\xe0\xe0\xe0\x80\x00\x00\x00\x00",
-    );
-    u[4568] = 40;
-    u[4569] = 0;
-    let t = table(1, run(1, 159), run(256, 199), run(0, 36551));
-    listed(t, b"accepted, 256 snapshots", &u);
-}
-
 // Where the files of a sheet lie.
 fn read_places(s: &[u8]) {
     let places = sheet::file_places(s, 2);
     told(
-        places[0] == 0 && places[1] == 23 && places[2] == 0,
+        (places[0] == 0) & (places[1] == 23) & (places[2] == 0),
         b"the places of two files",
     );
 }
 
+// The head of a file that is not the first.
 fn read_head(s: &[u8]) {
     let h = records::head_at(s, 23);
     told(
-        h.container && h.claim == 0 && h.length == 2,
+        h.container & (h.claim == 0) & (h.length == 2),
         b"the second file, a container with no claim",
     );
 }
 
+// Its path, and paths that differ in a byte or in their length.
 fn read_path(s: &[u8]) {
     told(sheet::same_path(s, 23, b"bc"), b"its path");
     told(!sheet::same_path(s, 23, b"bd"), b"no other path");
     told(!sheet::same_path(s, 23, b"b"), b"no shorter path");
 }
 
+// A source with the highest id.
 fn read_source(s: &[u8]) {
     let o = records::source_at(s, 94);
-    told(o.file.0 == 0 && o.id == 4294967295, b"the second source");
+    told((o.file.0 == 0) & (o.id == 4294967295), b"the second source");
 }
 
+// A snapshot with a negative reading and another.
 fn read_snapshot(s: &[u8]) {
     let n = records::snapshot_at(s, 134);
     told(
-        n.source == 1 && n.clock == 1 && n.reading == -1,
+        (n.source == 1) & (n.clock == 1) & (n.reading == -1),
         b"the snapshot, on its first clock",
     );
     told(
-        n.clock2 == 2 && n.reading2 == 5,
+        (n.clock2 == 2) & (n.reading2 == 5),
         b"the snapshot, on its second clock",
     );
 }
 
+// An event whose reading is the lowest of 64 bits.
 fn read_event(s: &[u8]) {
     let e = records::event_at(s, 276);
     told(
-        e.source == 0 && e.clock == 0,
+        (e.source == 0) & (e.clock == 0),
         b"the event, on the private clock",
     );
     told(
@@ -491,7 +211,7 @@ fn read_event(s: &[u8]) {
 
 // What the readers give at the places of a sheet's records.
 fn read_back() {
-    let s =
+    let s: &[u8] =
         b"\x2c\x02\xc2\x60\x09\x89\x8d\x00\x00\x00\x00\x01\x03\xff\xff\xff\xfd\x84\xff\xff\xff\xff\xff\xff\xff\xff\xa0\x00\x00\x00\x00\x00\x00\x00\x58\x01\x00\x00\x00\x00\x00\x00\x00\x00\x00";
     read_places(s);
     read_head(s);
@@ -502,19 +222,8 @@ fn read_back() {
 }
 
 fn main() {
-    of_25();
-    of_26();
-    of_26_too();
-    of_27();
-    of_28();
-    of_28_clocks();
-    of_29();
-    of_30();
-    of_31();
-    good();
-    good_lists();
-    good_and_full();
-    long_sheets();
-    many_snapshots();
+    let mut space = io::large_buffer();
+    let n = io::read_full(0, &mut space);
+    each(&space[..n]);
     read_back();
 }

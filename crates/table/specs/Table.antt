@@ -35,7 +35,7 @@ linesBefore k (l ∷ ls) = pick (ltb (l .place) k) (suc (linesBefore k ls)) (lin
 unfoldable pub firstLine : ℕ → ℕ
 firstLine k = linesBefore k lines
 
--- j is the line about objects of kind o whose name is the string at p, or 20 if there is none. No other line is, so there is one such j
+-- j is the line about objects of kind o whose name is the string at p, or 20 if there is none. No other line is, so there is one such j (`line-one`)
 pub record LineAt (o : ℕ) (s : Text) (p j : ℕ) : Type 0 where
   pub few : j ≤ 20
   pub about : j < 20 → (lineAt j .place ≡ o) × (sameAs s p (lineAt j .name) ≡ true)

@@ -1,6 +1,7 @@
 // The table of known members as code holds it: a line for each, with its name, the kind of its value and whether refusal 9 asks for it; and the JSON type of a value.
 ghost use mathlib.Core.Path.{_≡_};
 ghost use Prim.Native.Nat.{_<_};
+ghost use Rattle.manifest.specs.Names.{bytes};
 ghost use Rattle.values.specs.Strings.{sameAs};
 ghost use Rattle.values.specs.Integer.{integerAt};
 ghost use Rattle.table.specs.Table.{lineAt, wantedOf, valueKind, firstLine, LineAt, tagOfNumber, tagAt};
@@ -70,32 +71,123 @@ pub fn first(kind: u8) -> usize
     wide(FIRST[wide(kind)])
 }
 
-// The string at a position is the name of a line.
+// The string at a position is `file`.
+fn is_file(s: &[u8], at: usize) -> bool
+    ensures { λ r. ⌜ r ≡ sameAs (now (s .entry)) at (bytes "file") ⌝ }
+{
+    values::same_as(s, at, b"file")
+}
+
+// The string at a position is `machine`.
+fn is_machine(s: &[u8], at: usize) -> bool
+    ensures { λ r. ⌜ r ≡ sameAs (now (s .entry)) at (bytes "machine") ⌝ }
+{
+    values::same_as(s, at, b"machine")
+}
+
+// The string at a position is `clock`.
+fn is_clock(s: &[u8], at: usize) -> bool
+    ensures { λ r. ⌜ r ≡ sameAs (now (s .entry)) at (bytes "clock") ⌝ }
+{
+    values::same_as(s, at, b"clock")
+}
+
+// The string at a position is `sync_to`.
+fn is_sync_to(s: &[u8], at: usize) -> bool
+    ensures { λ r. ⌜ r ≡ sameAs (now (s .entry)) at (bytes "sync_to") ⌝ }
+{
+    values::same_as(s, at, b"sync_to")
+}
+
+// The string at a position is `offset_ns`.
+fn is_offset_ns(s: &[u8], at: usize) -> bool
+    ensures { λ r. ⌜ r ≡ sameAs (now (s .entry)) at (bytes "offset_ns") ⌝ }
+{
+    values::same_as(s, at, b"offset_ns")
+}
+
+// The string at a position is `id`.
+fn is_id(s: &[u8], at: usize) -> bool
+    ensures { λ r. ⌜ r ≡ sameAs (now (s .entry)) at (bytes "id") ⌝ }
+{
+    values::same_as(s, at, b"id")
+}
+
+// The string at a position is `name`.
+fn is_name(s: &[u8], at: usize) -> bool
+    ensures { λ r. ⌜ r ≡ sameAs (now (s .entry)) at (bytes "name") ⌝ }
+{
+    values::same_as(s, at, b"name")
+}
+
+// The string at a position is `path`.
+fn is_path(s: &[u8], at: usize) -> bool
+    ensures { λ r. ⌜ r ≡ sameAs (now (s .entry)) at (bytes "path") ⌝ }
+{
+    values::same_as(s, at, b"path")
+}
+
+// The string at a position is `machines`.
+fn is_machines(s: &[u8], at: usize) -> bool
+    ensures { λ r. ⌜ r ≡ sameAs (now (s .entry)) at (bytes "machines") ⌝ }
+{
+    values::same_as(s, at, b"machines")
+}
+
+// The string at a position is `clocks`.
+fn is_clocks(s: &[u8], at: usize) -> bool
+    ensures { λ r. ⌜ r ≡ sameAs (now (s .entry)) at (bytes "clocks") ⌝ }
+{
+    values::same_as(s, at, b"clocks")
+}
+
+// The string at a position is `version`.
+fn is_version(s: &[u8], at: usize) -> bool
+    ensures { λ r. ⌜ r ≡ sameAs (now (s .entry)) at (bytes "version") ⌝ }
+{
+    values::same_as(s, at, b"version")
+}
+
+// The string at a position is `trace_time`.
+fn is_trace_time(s: &[u8], at: usize) -> bool
+    ensures { λ r. ⌜ r ≡ sameAs (now (s .entry)) at (bytes "trace_time") ⌝ }
+{
+    values::same_as(s, at, b"trace_time")
+}
+
+// The string at a position is `files`.
+fn is_files(s: &[u8], at: usize) -> bool
+    ensures { λ r. ⌜ r ≡ sameAs (now (s .entry)) at (bytes "files") ⌝ }
+{
+    values::same_as(s, at, b"files")
+}
+
+// The string at a position is the name of a line. All byte strings of a function are laid out on the stack when it is called, so each name has a function of its own.
 fn named(s: &[u8], at: usize, line: usize) -> bool
     requires { ⌜ line < 20 ⌝ }
     ensures { λ r. ⌜ r ≡ sameAs (now (s .entry)) at (lineAt line .name) ⌝ }
 {
     match line {
-        0 => values::same_as(s, at, b"file"),
-        1 => values::same_as(s, at, b"machine"),
-        2 => values::same_as(s, at, b"clock"),
-        3 => values::same_as(s, at, b"clock"),
-        4 => values::same_as(s, at, b"machine"),
-        5 => values::same_as(s, at, b"sync_to"),
-        6 => values::same_as(s, at, b"offset_ns"),
-        7 => values::same_as(s, at, b"id"),
-        8 => values::same_as(s, at, b"name"),
-        9 => values::same_as(s, at, b"name"),
-        10 => values::same_as(s, at, b"path"),
-        11 => values::same_as(s, at, b"machine"),
-        12 => values::same_as(s, at, b"machines"),
-        13 => values::same_as(s, at, b"clocks"),
-        14 => values::same_as(s, at, b"clock"),
-        15 => values::same_as(s, at, b"file"),
-        16 => values::same_as(s, at, b"machine"),
-        17 => values::same_as(s, at, b"version"),
-        18 => values::same_as(s, at, b"trace_time"),
-        _ => values::same_as(s, at, b"files"),
+        0 => is_file(s, at),
+        1 => is_machine(s, at),
+        2 => is_clock(s, at),
+        3 => is_clock(s, at),
+        4 => is_machine(s, at),
+        5 => is_sync_to(s, at),
+        6 => is_offset_ns(s, at),
+        7 => is_id(s, at),
+        8 => is_name(s, at),
+        9 => is_name(s, at),
+        10 => is_path(s, at),
+        11 => is_machine(s, at),
+        12 => is_machines(s, at),
+        13 => is_clocks(s, at),
+        14 => is_clock(s, at),
+        15 => is_file(s, at),
+        16 => is_machine(s, at),
+        17 => is_version(s, at),
+        18 => is_trace_time(s, at),
+        _ => is_files(s, at),
     }
 }
 

@@ -12,7 +12,7 @@ use Rattle.merged.specs.Merged.{padded}
 use Rattle.checks.specs.Machines.{machineTable}
 use Rattle.lines.specs.Lines.{clockBy, eventsAt, over, reach}
 use Rattle.placed.specs.Placed.{cells, cleared}
-use Rattle.known.specs.declared.Known.{Known}
+use Rattle.placed.specs.declared.Known.{Known}
 use Rattle.answered.specs.Answered.{asByte, machinesIn, clocksIn, readingsIn, eventsIn, summed}
 use Rattle.answered.specs.laws.Fronts.{machines-long, rest-cleared}
 

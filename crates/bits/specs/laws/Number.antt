@@ -47,6 +47,10 @@ module _ (s : List ℕ) where
       regroup : (x y z : ℕ) → (x * 2 ^ b + y) * 2 + z ≡ x * 2 ^ suc b + (y * 2 + z)
       regroup x y z = rw (pow-suc 2 b) (omega arith)
 
+  -- the first w of more bits: those after them are shifted out
+  pub number-front : (i w r : ℕ) → number s i (w + r) / 2 ^ r ≡ number s i w
+  number-front i w r = ap (λ (x : ℕ). x / 2 ^ r) (number-append i w r) ∙ high (number s i w) r (number-lt (i + w) r)
+
   -- bit k of a field, counted from its most significant, is bit i + k of the slice
   pub bit-of : (i w k : ℕ) → k < w → number s i w / 2 ^ (w - suc k) % 2 ≡ bitAt s (i + k)
   bit-of i w k h =

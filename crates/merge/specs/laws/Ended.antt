@@ -23,9 +23,9 @@ use Rattle.checks.specs.Table.{factsBy}
 use Rattle.checks.specs.Machines.{machineTable}
 use Rattle.lines.specs.Lines.{clockBy, eventsAt}
 use Rattle.placed.specs.Placed.{worldIn, cells}
-use Rattle.known.specs.declared.Known.{Known}
-use Rattle.known.specs.declared.Told.{Told}
-use Rattle.known.specs.declared.Told.the-variants.{Refused as ToldRefused, Accepted}
+use Rattle.placed.specs.declared.Known.{Known}
+use Rattle.placed.specs.declared.Told.{Told}
+use Rattle.placed.specs.declared.Told.the-variants.{Refused as ToldRefused, Accepted}
 use Rattle.known.specs.Known.{factTable, linksIn, told}
 use Rattle.joins.specs.Joined.{Small, roomyFor, worldBy, answersBy, acceptedWith}
 use Rattle.joins.specs.Ends.{by-room, accepted-is, machine-small, machines-counted, files-counted, small}

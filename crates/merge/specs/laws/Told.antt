@@ -21,9 +21,9 @@ use Rattle.checks.specs.Table.{factsBy}
 use Rattle.checks.specs.Machines.{machineTable}
 use Rattle.lines.specs.Lines.{linksBy}
 use Rattle.placed.specs.Placed.{worldIn}
-use Rattle.known.specs.declared.Known.{Known}
-use Rattle.known.specs.declared.Told.{Told}
-use Rattle.known.specs.declared.Told.the-variants.{Refused, Accepted}
+use Rattle.placed.specs.declared.Known.{Known}
+use Rattle.placed.specs.declared.Told.{Told}
+use Rattle.placed.specs.declared.Told.the-variants.{Refused, Accepted}
 use Rattle.known.specs.Known.{tableIn, givenBy, factTable, linksIn, givenIn, told}
 use Rattle.known.specs.Theorems.{told-by}
 use Rattle.joins.specs.Joined.{Read, Small, worldBy}

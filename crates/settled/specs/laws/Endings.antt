@@ -7,9 +7,9 @@ use lib.ListN.{replicate}
 use Rattle.merged.specs.declared.Answer.{Answer}
 use Rattle.merged.specs.declared.Answer.the-variants.{Refused as AnswerRefused}
 use Rattle.merged.specs.Merged.{Room, Outcome, padded, refusedBy}
-use Rattle.known.specs.declared.Known.{Known}
-use Rattle.known.specs.declared.Told.{Told}
-use Rattle.known.specs.declared.Told.the-variants.{Refused, Accepted}
+use Rattle.placed.specs.declared.Known.{Known}
+use Rattle.placed.specs.declared.Told.{Told}
+use Rattle.placed.specs.declared.Told.the-variants.{Refused, Accepted}
 use Rattle.answered.specs.Answered.{machinesIn, summed}
 use Rattle.settled.specs.Settled.{eventsBy, settledIn}
 

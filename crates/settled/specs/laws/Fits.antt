@@ -8,9 +8,9 @@ use borrow.Author.Tests.{leb-true}
 use Rattle.text.specs.Reading.{pick}
 use Rattle.text.specs.laws.Readers.{pick-true, pick-false}
 use Rattle.merged.specs.Merged.{Room}
-use Rattle.known.specs.declared.Known.{Known}
-use Rattle.known.specs.declared.Told.{Told}
-use Rattle.known.specs.declared.Told.the-variants.{Refused, Accepted}
+use Rattle.placed.specs.declared.Known.{Known}
+use Rattle.placed.specs.declared.Told.{Told}
+use Rattle.placed.specs.declared.Told.the-variants.{Refused, Accepted}
 use Rattle.joins.specs.Joined.{roomyFor}
 use Rattle.settled.specs.Settled.{fittedIn}
 
