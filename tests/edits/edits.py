@@ -261,8 +261,9 @@ def chosen(words):
 
 def attempts(edits, kept):
     """Tries all edits, by crate, those of different functions together, and a crate without an edit; a line about each and whether it passed."""
-    # The crates that take longest first, by the size of what is checked, so that the processors stay busy to the end.
-    order = sorted(edits, key=lambda crate: -sum(f.stat().st_size for f in pathlib.Path("crates", crate).rglob("*.antt")))
+    # Those that take longest first, by the size of what is read and checked, so that the processors stay busy to the end.
+    size = {crate: sum(f.stat().st_size for f in pathlib.Path("crates", crate).rglob("*.antt")) for crate in BELOW}
+    order = sorted(edits, key=lambda crate: -size[crate] - sum(size.get(name, 0) for name in BELOW[crate]))
     parts = {crate: together(crate, edits[crate]) for crate in order}
     lists = [(crate, some) for crate in order for some in parts[crate][0]]
     alone = [("numbers", None)] + [(crate, edit) for crate in order for edit in parts[crate][1]]
