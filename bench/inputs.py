@@ -2,7 +2,8 @@
 
     inputs.py FOLDER          writes NAME.json (absent: no manifest), NAME.bits and the list of names
     inputs.py table < TIMES   prints the table of the lines that `time inputs` printed
-    inputs.py page KIND < SECTION    writes docs/TIMINGS.md, with this section of a kind of machine and those of other kinds as they were
+    inputs.py page KIND CODE < SECTION    writes docs/TIMINGS.md, with this section of a kind of machine and those of other kinds as they were; one that was
+                                          measured on other code than CODE says so
 
 Sheets are written by tests/second/sheet.py.
 """
@@ -116,6 +117,16 @@ def crammed(front, begin, part, end):
     return text[:at] + begin + part * count + end + text[at:], few_sheet(100)
 
 
+def related_files(path):
+    """32 files, each on a machine of its own but one, and each related to the one before."""
+    entries = [{'path': path(i), 'machine': {'name': f'm{i % 31}'}} for i in range(32)]
+    for before, entry in zip(entries, entries[1:]):
+        there = {'file': before['path'], 'machine': before['machine']['name'], 'clock': 'MONOTONIC'}
+        entry['clocks'] = {'clock': 'BOOTTIME', 'machine': entry['machine']['name'], 'sync_to': there, 'offset_ns': 250000000}
+    listed = [File(0, BOOTTIME, entry['path'].encode()) for entry in entries] + [Source(i, 0) for i in range(32)]
+    return manifest({'version': 1, 'files': entries}), sheet(listed, [Event(i, BOOTTIME, SECOND) for i in range(32)])
+
+
 # The worst that was found.
 
 def chain(first, count):
@@ -166,6 +177,10 @@ INPUTS['manifest-1k'] = ('manifest of 1 KiB', lambda: commented(1024))
 INPUTS['manifest-64k'] = ('manifest of 64 KiB, long comments', lambda: commented(LONGEST))
 INPUTS['manifest-items'] = ('manifest of 64 KiB, 32 entries with 32 items', many_items)
 INPUTS['manifest-wide'] = ('manifest of 64 KiB, a text of two-byte characters', lambda: crammed(b'"version":1,', b'"comment":"', 'é'.encode(), b'",'))
+INPUTS['manifest-short'] = ('manifest of 64 KiB, short texts of two-byte characters', lambda: crammed(b'"version":1,', b'"comment":["",', '"é",'.encode(), b'""],'))
+INPUTS['manifest-near'] = ('manifest of 64 KiB, names that begin as known ones do', lambda: crammed(b'"sync_to":{', b'', b'"m":0,', b''))
+INPUTS['files-short'] = ('32 related files, short paths', lambda: related_files(lambda i: f'{i:02}.pftrace'))
+INPUTS['files-long'] = ('32 related files, paths of 250 bytes', lambda: related_files(lambda i: 'lab/' * 60 + f'{i:02}.pftrace'))
 INPUTS['long-ways'] = ('paths of 191 pairs', long_ways)
 INPUTS['worst'] = ('the worst found: paths of 185 pairs, manifest of 64 KiB', worst)
 
@@ -205,12 +220,21 @@ def table(lines):
         print('| ' + ' | '.join(padded) + ' |')
 
 
-def page(kind, section):
+OLDER = '**Measured on older code than the newest section here.**\n'
+
+
+def dated(section, code):
+    """A section as it was measured, with a line more if that was on other code."""
+    told = section.replace(OLDER, '').strip()
+    return told if f'code {code}' in told.split('\n', 1)[0] else OLDER + told
+
+
+def page(kind, code, section):
     frame = pathlib.Path(HERE, 'TIMINGS.in').read_text(encoding='utf-8')
     path = pathlib.Path(HERE, '..', 'docs', 'TIMINGS.md')
     sections = dict(part.split('\n', 1) for part in path.read_text(encoding='utf-8').split('\n## ')[1:])
     sections[kind] = section
-    text = '\n\n'.join(f'## {name}\n\n{sections[name].strip()}' for name in sorted(sections))
+    text = '\n\n'.join(f'## {name}\n\n{dated(sections[name], code)}' for name in sorted(sections))
     path.write_text(frame.replace('@SECTIONS@', text), encoding='utf-8')
 
 
@@ -218,6 +242,6 @@ if __name__ == '__main__':
     if sys.argv[1] == 'table':
         table(sys.stdin)
     elif sys.argv[1] == 'page':
-        page(sys.argv[2], sys.stdin.read())
+        page(sys.argv[2], sys.argv[3], sys.stdin.read())
     else:
         write(sys.argv[1])

@@ -1,17 +1,19 @@
 // Refusals 19 to 23: cited files and machines, and offsets.
 ghost use mathlib.Core.Path.{_≡_};
+ghost use Prim.Native.Nat.{_<_};
 ghost use Rattle.json.specs.Tree.{same};
 ghost use Rattle.manifest.specs.Rows.{holds, any, declared};
 ghost use Rattle.manifest.specs.Rules.{applies, first, named-entry, no-entry, not-declared, no-integer, too-far};
 ghost use Rattle.manifest.specs.Rules.{refusal-19-file-names-no-entry, refusal-20-no-machine-of-a-split-file, refusal-21-machine-not-declared};
 ghost use Rattle.manifest.specs.Rules.{refusal-22-offset-not-an-integer, refusal-23-offset-out-of-range};
 ghost use Rattle.index.specs.Index.{textAt, textCell, offsetCell, entryAt, manifestOf};
+ghost use Rattle.finds.specs.Finds.{citesOf};
 ghost use Rattle.cited.specs.Cited.{cited-rules};
 ghost use Rattle.cited.specs.laws.Within.{outsideOf, withinAt};
 ghost use Rattle.cited.specs.laws.Files.{foundAt};
 ghost use Rattle.cited.specs.laws.Declared.{machineIs};
 ghost use Rattle.cited.specs.laws.Rule20.{splitAt, ownless, unnamed};
-ghost use Rattle.cited.specs.laws.Rule21.{strange};
+ghost use Rattle.cited.specs.laws.Rule21.{strangeIn};
 
 // Which entry the file at p names; 32 if it names none, or if p is 0.
 fn cited_entry(s: &[u8], ix: &[usize; 2470], p: usize) -> usize
@@ -46,8 +48,9 @@ fn refusal_19_outside(s: &[u8], ix: &[usize; 2470]) -> bool
     cites_no_entry(s, ix, cited)
 }
 
-// 19 in entry i.
-fn refusal_19_in(s: &[u8], ix: &[usize; 2470], i: usize) -> bool
+// 19 in entry i. (`cites` tells, here and below, which entry the `file` of each entry's `sync_to` names: it is looked for once.)
+fn refusal_19_in(s: &[u8], ix: &[usize; 2470], i: usize, cites: &[usize; 32]) -> bool
+    requires { ⌜ (i < 32) × (now cites ≡ citesOf (now s) (now ix)) ⌝ }
     ensures { λ r. ⌜ r ≡ withinAt refusal-19-file-names-no-entry (now (s .entry)) (now (ix .entry)) i ⌝ }
 {
     if index::col(ix, i, 4) == 0 {
@@ -56,12 +59,16 @@ fn refusal_19_in(s: &[u8], ix: &[usize; 2470], i: usize) -> bool
     if index::col(ix, i, 7) == 0 {
         return false;
     }
-    let cited = index::col(ix, i, 8);
-    cites_no_entry(s, ix, cited)
+    if index::col(ix, i, 8) == 0 {
+        return false;
+    }
+    let known = cites[i] < 32;
+    !known
 }
 
 // 19: a `file` in `sync_to` or `trace_time` names no entry.
-fn refusal_19_file_names_no_entry(s: &[u8], ix: &[usize; 2470]) -> bool
+fn refusal_19_file_names_no_entry(s: &[u8], ix: &[usize; 2470], cites: &[usize; 32]) -> bool
+    requires { ⌜ now cites ≡ citesOf (now s) (now ix) ⌝ }
     ensures { λ r. ⌜ r ≡ applies refusal-19-file-names-no-entry (manifestOf (now (s .entry)) (now (ix .entry))) ⌝ }
 {
     if refusal_19_outside(s, ix) {
@@ -70,7 +77,7 @@ fn refusal_19_file_names_no_entry(s: &[u8], ix: &[usize; 2470]) -> bool
     let n = index::entries(ix);
     let mut i: usize = 0;
     while i < n {
-        if refusal_19_in(s, ix, i) {
+        if refusal_19_in(s, ix, i, cites) {
             return true;
         }
         i += 1;
@@ -96,19 +103,20 @@ fn is_ownless(ix: &[usize; 2470], i: usize) -> bool
 }
 
 // The `sync_to` of entry i names no machine, and a file that is split.
-fn is_unnamed(s: &[u8], ix: &[usize; 2470], i: usize) -> bool
+fn is_unnamed(s: &[u8], ix: &[usize; 2470], i: usize, cites: &[usize; 32]) -> bool
+    requires { ⌜ (i < 32) × (now cites ≡ citesOf (now s) (now ix)) ⌝ }
     ensures { λ r. ⌜ r ≡ unnamed (now (s .entry)) (now (ix .entry)) i ⌝ }
 {
     if index::col(ix, i, 9) != 0 {
         return false;
     }
-    let named = index::col(ix, i, 8);
-    let e = cited_entry(s, ix, named);
+    let e = cites[i];
     is_split(ix, e)
 }
 
 // 20 in entry i.
-fn refusal_20_in(s: &[u8], ix: &[usize; 2470], i: usize) -> bool
+fn refusal_20_in(s: &[u8], ix: &[usize; 2470], i: usize, cites: &[usize; 32]) -> bool
+    requires { ⌜ (i < 32) × (now cites ≡ citesOf (now s) (now ix)) ⌝ }
     ensures { λ r. ⌜ r ≡ withinAt refusal-20-no-machine-of-a-split-file (now (s .entry)) (now (ix .entry)) i ⌝ }
 {
     let clocks = index::col(ix, i, 4);
@@ -121,17 +129,18 @@ fn refusal_20_in(s: &[u8], ix: &[usize; 2470], i: usize) -> bool
     if index::col(ix, i, 7) == 0 {
         return false;
     }
-    is_unnamed(s, ix, i)
+    is_unnamed(s, ix, i, cites)
 }
 
 // 20: no `machine` in the `clocks` of a split file, or in a `sync_to` that names one.
-fn refusal_20_no_machine_of_a_split_file(s: &[u8], ix: &[usize; 2470]) -> bool
+fn refusal_20_no_machine_of_a_split_file(s: &[u8], ix: &[usize; 2470], cites: &[usize; 32]) -> bool
+    requires { ⌜ now cites ≡ citesOf (now s) (now ix) ⌝ }
     ensures { λ r. ⌜ r ≡ applies refusal-20-no-machine-of-a-split-file (manifestOf (now (s .entry)) (now (ix .entry))) ⌝ }
 {
     let n = index::entries(ix);
     let mut i: usize = 0;
     while i < n {
-        if refusal_20_in(s, ix, i) {
+        if refusal_20_in(s, ix, i, cites) {
             return true;
         }
         i += 1;
@@ -190,11 +199,10 @@ fn is_undeclared(s: &[u8], ix: &[usize; 2470], e: usize, p: usize) -> bool
     !declared
 }
 
-// The file at p has an entry, and a machine is named at q that this entry does not declare.
-fn is_strange(s: &[u8], ix: &[usize; 2470], p: usize, q: usize) -> bool
-    ensures { λ r. ⌜ r ≡ strange (now (s .entry)) (now (ix .entry)) p q ⌝ }
+// There is an entry e, and a machine is named at q that it does not declare.
+fn is_strange(s: &[u8], ix: &[usize; 2470], e: usize, q: usize) -> bool
+    ensures { λ r. ⌜ r ≡ strangeIn (now (s .entry)) (now (ix .entry)) e q ⌝ }
 {
-    let e = cited_entry(s, ix, p);
     if e < 32 {
         return is_undeclared(s, ix, e, q);
     }
@@ -208,13 +216,14 @@ fn refusal_21_outside(s: &[u8], ix: &[usize; 2470]) -> bool
     if ix[1] == 0 {
         return false;
     }
-    let file = ix[3];
+    let e = cited_entry(s, ix, ix[3]);
     let machine = ix[4];
-    is_strange(s, ix, file, machine)
+    is_strange(s, ix, e, machine)
 }
 
 // 21 in entry i.
-fn refusal_21_in(s: &[u8], ix: &[usize; 2470], i: usize) -> bool
+fn refusal_21_in(s: &[u8], ix: &[usize; 2470], i: usize, cites: &[usize; 32]) -> bool
+    requires { ⌜ (i < 32) × (now cites ≡ citesOf (now s) (now ix)) ⌝ }
     ensures { λ r. ⌜ r ≡ withinAt refusal-21-machine-not-declared (now (s .entry)) (now (ix .entry)) i ⌝ }
 {
     if index::col(ix, i, 4) == 0 {
@@ -227,13 +236,14 @@ fn refusal_21_in(s: &[u8], ix: &[usize; 2470], i: usize) -> bool
     if index::col(ix, i, 7) == 0 {
         return false;
     }
-    let file = index::col(ix, i, 8);
+    let named = cites[i];
     let machine = index::col(ix, i, 9);
-    is_strange(s, ix, file, machine)
+    is_strange(s, ix, named, machine)
 }
 
 // 21: a `machine` in `clocks`, `sync_to` or `trace_time` is not declared by that file.
-fn refusal_21_machine_not_declared(s: &[u8], ix: &[usize; 2470]) -> bool
+fn refusal_21_machine_not_declared(s: &[u8], ix: &[usize; 2470], cites: &[usize; 32]) -> bool
+    requires { ⌜ now cites ≡ citesOf (now s) (now ix) ⌝ }
     ensures { λ r. ⌜ r ≡ applies refusal-21-machine-not-declared (manifestOf (now (s .entry)) (now (ix .entry))) ⌝ }
 {
     if refusal_21_outside(s, ix) {
@@ -242,7 +252,7 @@ fn refusal_21_machine_not_declared(s: &[u8], ix: &[usize; 2470]) -> bool
     let n = index::entries(ix);
     let mut i: usize = 0;
     while i < n {
-        if refusal_21_in(s, ix, i) {
+        if refusal_21_in(s, ix, i, cites) {
             return true;
         }
         i += 1;
@@ -336,13 +346,14 @@ fn refusal_23_offset_out_of_range(s: &[u8], ix: &[usize; 2470]) -> bool
 pub fn refusal(s: &[u8], ix: &[usize; 2470]) -> u8
     ensures { λ r. ⌜ r ≡ first cited-rules (manifestOf (now (s .entry)) (now (ix .entry))) ⌝ }
 {
-    if refusal_19_file_names_no_entry(s, ix) {
+    let cites = finds::cites(s, ix);
+    if refusal_19_file_names_no_entry(s, ix, &cites) {
         return 19;
     }
-    if refusal_20_no_machine_of_a_split_file(s, ix) {
+    if refusal_20_no_machine_of_a_split_file(s, ix, &cites) {
         return 20;
     }
-    if refusal_21_machine_not_declared(s, ix) {
+    if refusal_21_machine_not_declared(s, ix, &cites) {
         return 21;
     }
     if refusal_22_offset_not_an_integer(s, ix) {

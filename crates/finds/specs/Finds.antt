@@ -1,4 +1,4 @@
--- What is found in an index: the entry of a path, the item of an id, the name of a file's base machine. Assumes nothing.
+-- What is found in an index: the entry of a path, the entry that each cites, the item of an id, the name of a file's base machine. Assumes nothing.
 use mathlib.Core.List.{List}
 use Prim.Native.Nat.{ℕ}
 use lib.Dec.{eqb}
@@ -6,11 +6,19 @@ use lib.IntN.{pos}
 use Rattle.text.specs.Reading.{Text, pick}
 use Rattle.manifest.specs.Rows.{Manifest, id, firstOr, holds, entries, its-items}
 use Rattle.manifest.specs.Rules.{has-path, same-id}
-use Rattle.index.specs.Index.{colOf, itemOf, entryAt}
+use Rattle.index.specs.Index.{textAt, colOf, itemOf, listed, entryAt, manifestOf}
 
 -- which entry has a path: the first one that has it; 32 if none has
 unfoldable pub entryOf : Manifest → Text → ℕ
 entryOf m t = firstOr 32 (holds (has-path t)) (entries m) 0
+
+-- which entry the `file` of the `sync_to` of entry i names; 32 if it names none, or if there is no such `file`
+unfoldable pub citedBy : Text → List ℕ → ℕ → ℕ
+citedBy s ix i = pick (eqb (colOf ix i 8) 0) 32 (entryOf (manifestOf s ix) (textAt s (colOf ix i 8)))
+
+-- of entries 0 to 31. (Past the last entry an index has no `file`)
+unfoldable pub citesOf : Text → List ℕ → List ℕ
+citesOf s ix = listed (citedBy s ix) 0 32
 
 -- which item of entry i has an id: the first one that has it; 32 if none has
 unfoldable pub itemWith : Text → List ℕ → ℕ → ℕ → ℕ

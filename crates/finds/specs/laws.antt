@@ -2,5 +2,6 @@
 pub mod Swaps
 pub mod Firsts
 pub mod Paths
+pub mod Cites
 pub mod Ids
 pub mod Bases

@@ -1,11 +1,12 @@
 // Refusal 24: a clock related to itself.
 ghost use mathlib.Core.Path.{_≡_};
+ghost use Prim.Native.Nat.{_<_};
 ghost use lib.Dec.{eqb};
 ghost use Rattle.text.specs.Reading.{pick};
 ghost use Rattle.manifest.specs.Rules.{applies, first, refusal-24-clock-related-to-itself, same-machine, same-clock};
 ghost use Rattle.index.specs.Index.{manifestOf, whoseAt};
 ghost use Rattle.index.specs.laws.Entries.{entryCell};
-ghost use Rattle.finds.specs.Finds.{baseAt};
+ghost use Rattle.finds.specs.Finds.{citesOf, baseAt};
 ghost use Rattle.itself.specs.Itself.{itself-rules};
 ghost use Rattle.itself.specs.laws.Clocks.{ownClock, otherClock, ownShared, otherShared};
 
@@ -64,8 +65,9 @@ fn same_clocks(s: &[u8], ix: &[usize; 2470], i: usize, e: usize) -> bool
     same_shared(s, ix, i, e)
 }
 
-// Entry i relates a clock to itself. Without `clocks`, `sync_to`, its `file`, or an entry of that path it relates none.
-fn itself_in(s: &[u8], ix: &[usize; 2470], i: usize) -> bool
+// Entry i relates a clock to itself. Without `clocks`, `sync_to`, its `file`, or an entry of that path it relates none: the table of what each entry cites has 32 then.
+fn itself_in(s: &[u8], ix: &[usize; 2470], i: usize, cites: &[usize; 32]) -> bool
+    requires { ⌜ (i < 32) × (now cites ≡ citesOf (now s) (now ix)) ⌝ }
     ensures { λ r. ⌜ r ≡ refusal-24-clock-related-to-itself .within (manifestOf (now (s .entry)) (now (ix .entry))) i (entryCell (now (s .entry)) (now (ix .entry)) i) ⌝ }
 {
     if index::col(ix, i, 4) == 0 {
@@ -74,11 +76,7 @@ fn itself_in(s: &[u8], ix: &[usize; 2470], i: usize) -> bool
     if index::col(ix, i, 7) == 0 {
         return false;
     }
-    let file = index::col(ix, i, 8);
-    if file == 0 {
-        return false;
-    }
-    let e = finds::entry_with(s, ix, file);
+    let e = cites[i];
     if e < 32 {
         return same_clocks(s, ix, i, e);
     }
@@ -89,10 +87,11 @@ fn itself_in(s: &[u8], ix: &[usize; 2470], i: usize) -> bool
 fn refusal_24_clock_related_to_itself(s: &[u8], ix: &[usize; 2470]) -> bool
     ensures { λ r. ⌜ r ≡ applies refusal-24-clock-related-to-itself (manifestOf (now (s .entry)) (now (ix .entry))) ⌝ }
 {
+    let cites = finds::cites(s, ix);
     let n = index::entries(ix);
     let mut i: usize = 0;
     while i < n {
-        if itself_in(s, ix, i) {
+        if itself_in(s, ix, i, &cites) {
             return true;
         }
         i += 1;

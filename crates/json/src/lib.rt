@@ -17,7 +17,7 @@ fn told(r: Scan) -> Scan
 }
 
 // A string, a literal or a number, by its first byte.
-fn scalar(s: &[u8], at: usize) -> Scan
+pub fn scalar(s: &[u8], at: usize) -> Scan
     ensures { λ r. ⌜ r ≡ scan (scalarOf (now (s .entry)) at) ⌝ }
 {
     let b = text::byte(s, at);

@@ -3,6 +3,7 @@ pub mod Texts
 pub mod Empty
 pub mod Firsts
 pub mod Prints
+pub mod Tables
 pub mod Kept
 pub mod Held
 pub mod Filled

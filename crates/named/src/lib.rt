@@ -12,6 +12,7 @@ ghost use Rattle.named.specs.Named.{place, declaredAt, nameTable, countI
 ghost use Rattle.named.specs.laws.Texts.{known};
 ghost use Rattle.named.specs.laws.Firsts.{isCalled};
 ghost use Rattle.named.specs.laws.Prints.{step, printFrom, printAt};
+ghost use Rattle.named.specs.laws.Tables.{pathPrints};
 ghost use Rattle.named.specs.laws.Held.{Added};
 ghost use Rattle.named.specs.laws.Kept.{Printed, Place};
 ghost use Rattle.named.specs.laws.Filled.{machineAt};
@@ -274,4 +275,17 @@ pub fn print_at(s: &[u8], p: usize) -> u32
             text::Code::No(_) => return 0,
         }
     }
+}
+
+// The prints of the paths of entries 0 to 31; where there is no path, of the text at 0.
+pub fn path_prints(s: &[u8], ix: &[usize; 2470]) -> [u32; 32]
+    ensures { λ r. ⌜ r ≡ pathPrints (now (s .entry)) (now (ix .entry)) ⌝ }
+{
+    let mut prints: [u32; 32] = [0; 32];
+    let mut i: usize = 0;
+    while i < 32 {
+        prints[i] = print_at(s, index::col(ix, i, 0));
+        i += 1;
+    }
+    prints
 }

@@ -8,7 +8,7 @@ use native.Mathlib.Decide.{ℕ-discrete, decLt}
 use native.Mathlib.Nat.{min-le-left}
 use lib.Dec.{eqb}
 use lib.ListN.{length, getD, take, drop, set, length-set, drop-of-length-le}
-use lib.Seq.{drop-cons, getD-take, getD-set-same, getD-set-other, length-take-le, take-suc-set}
+use lib.Seq.{drop-cons, getD-take, length-take-le, take-suc-set}
 use lib.Signed.{ltZ, mag}
 use lib.IntN.{ℤ, pos, negsuc}
 use mir.Syntax.{w64}
@@ -27,7 +27,7 @@ use Rattle.manifest.specs.Rules.{no-id, same-id, twice-in, has-path, refusal-14
 use Rattle.manifest.specs.laws.Bools.{halves}
 use Rattle.index.specs.Index.{colOf, itemOf, entriesIn, itemsIn, textAt, textCell, idCell, listed, entryBy, entryAt, manifestOf}
 use Rattle.index.specs.laws.Entries.{from, any-past, any-found, any-on, entryCell, entries-are}
-use Rattle.once.specs.laws.Parts.{inEntry, idsFrom, pathBefore, idOf, idsIn, Numbered, Told, Printed}
+use Rattle.once.specs.laws.Parts.{inEntry, idsFrom, pathBefore, idOf, idsIn, Numbered, Told}
 use Rattle.named.specs.laws.Prints.{printAt, other-print, same-none, same-some}
 use Rattle.once.proofs.Loops.{applies-in}
 use Rattle.once.proofs.Cells.{at-none, at-some}
@@ -61,7 +61,7 @@ module _ (s : Text) (p q : ℕ) {print : ℕ} (its-print : print ≡ printAt s p
       go (yes h) = path-none s p q h
       go (no h) = path-some s p q h (sym (other-print s p q its-print e n))
 
--- ---- the prints of the paths
+-- ---- the number of entries
 
 few-entries : (ix : List ℕ) → entriesIn ix ≤ 32
 unfolding entriesIn pick
@@ -74,21 +74,6 @@ few-entries ix = go (eqb (getD ix 0 0) 0)
 module _ (s : Text) (ix : List ℕ) where
   pub entries-few : {n : ℕ} → n ≡ entriesIn ix → n ≤ 32
   entries-few e = omega (arith, few-entries ix)
-
-  pub printed-none : {prints : List ℕ} → length prints ≡ 32 → Printed s ix prints 0
-  printed-none e = record { long = e; each = λ j h. absurd (omega arith) }
-
-  pub printed-more : {prints : List ℕ} {n p v : ℕ} → n < 32 → Printed s ix prints n → p ≡ colOf ix n 0 → v ≡ printAt s p → Printed s ix (set prints n v) (n + 1)
-  printed-more {prints} {n} {p} {v} h a f e = record { long = length-set prints n v ∙ a .long; each = λ j b. go j b (ℕ-discrete j n) }
-    where
-      go : (j : ℕ) → j < n + 1 → Dec (j ≡ n) → getD (set prints n v) j 0 ≡ printAt s (colOf ix j 0)
-      go j b (yes q) =
-          let m : n < length prints = omega (arith, a .long) in
-          ap (λ (x : ℕ). getD (set prints n v) x 0) q ∙ getD-set-same prints n v 0 m ∙ e ∙ ap (printAt s) f ∙ ap (λ (x : ℕ). printAt s (colOf ix x 0)) (sym q)
-      go j b (no q) = let c : j < n = omega arith in getD-set-other prints n j v 0 q ∙ a .each j c
-
-  pub printed-all : {prints : List ℕ} {n j : ℕ} → n ≡ entriesIn ix → n ≤ j → Printed s ix prints j → Printed s ix prints (entriesIn ix)
-  printed-all e h a = record { long = a .long; each = λ k b. a .each k (omega arith) }
 
 -- ---- the entries before an entry
 

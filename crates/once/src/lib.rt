@@ -9,8 +9,9 @@ ghost use Rattle.manifest.specs.Rows.{the, holds, any, ids};
 ghost use Rattle.manifest.specs.Rules.{applies, first, no-id, same-id, twice-in, refusal-14-id-out-of-range, refusal-15-path-or-id-twice, refusal-16-clocks-without-sync-to, refusal-17-machine-without-file, refusal-18-sync-to-without-file};
 ghost use Rattle.index.specs.Index.{entriesIn, itemsIn, textAt, textCell, idCell, entryAt, manifestOf};
 ghost use Rattle.named.specs.laws.Prints.{printAt};
+ghost use Rattle.named.specs.laws.Tables.{pathPrints};
 ghost use Rattle.once.specs.Once.{once-rules};
-ghost use Rattle.once.specs.laws.Parts.{inEntry, pathBefore, idOf, idsIn, Numbered, Told, Printed};
+ghost use Rattle.once.specs.laws.Parts.{inEntry, pathBefore, idOf, idsIn, Numbered, Told};
 
 // The number of the first of these rules that applies to the manifest; 0 if none does.
 pub fn refusal(s: &[u8], ix: &[usize; 2470]) -> u8
@@ -189,8 +190,7 @@ fn refusal_15_path_or_id_twice(s: &[u8], ix: &[usize; 2470], twice: bool) -> boo
     if twice {
         return true;
     }
-    let mut prints: [u32; 32] = [0; 32];
-    print_paths(s, ix, &mut prints);
+    let prints = named::path_prints(s, ix);
     let n = index::entries(ix);
     let mut i: usize = 0;
     while i < n {
@@ -202,22 +202,9 @@ fn refusal_15_path_or_id_twice(s: &[u8], ix: &[usize; 2470], twice: bool) -> boo
     false
 }
 
-// The prints of the entries' paths.
-fn print_paths(s: &[u8], ix: &[usize; 2470], prints: &mut [u32; 32])
-    requires { ⌜ length (now prints) ≡ 32 ⌝ }
-    ensures { λ _. ⌜ Printed (now (s .entry)) (now (ix .entry)) (now (prints .exit)) (entriesIn (now (ix .entry))) ⌝ }
-{
-    let n = index::entries(ix);
-    let mut k: usize = 0;
-    while k < n {
-        prints[k] = named::print_at(s, index::col(ix, k, 0));
-        k += 1;
-    }
-}
-
 // Entry i has the path of an entry before it. Only paths with one print are compared.
 fn path_before(s: &[u8], ix: &[usize; 2470], i: usize, prints: &[u32; 32]) -> bool
-    requires { ⌜ (i < entriesIn (now ix)) × Printed (now s) (now ix) (now prints) (entriesIn (now ix)) ⌝ }
+    requires { ⌜ (i < entriesIn (now ix)) × (now prints ≡ pathPrints (now s) (now ix)) ⌝ }
     ensures { λ r. ⌜ r ≡ pathBefore (now (s .entry)) (now (ix .entry)) i ⌝ }
 {
     let p = index::col(ix, i, 0);

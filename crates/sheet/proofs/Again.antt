@@ -81,7 +81,7 @@ module _ (s : List ℕ) where
   none-left p q e = rw e
 
   -- ---- paths
-  length-is : {a : ℕ} {g : Head} → g ≡ headAt s a → a < far → headHere s a .length ≡ g .length
+  pub length-is : {a : ℕ} {g : Head} → g ≡ headAt s a → a < far → headHere s a .length ≡ g .length
   length-is {a} e l = rw (e ∙ head-near s a l)
 
   path-is : {a : ℕ} {g : Head} → g ≡ headAt s a → a < far → pathHere s a ≡ bytesAt s (a + 15) (g .length)

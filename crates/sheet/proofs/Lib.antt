@@ -1,4 +1,5 @@
 -- Laws that only the proofs of this crate's functions use.
 pub mod Again
+pub mod Printing
 pub mod Placed
 pub mod Final

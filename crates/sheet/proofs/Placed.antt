@@ -1,9 +1,10 @@
--- An array that holds the places of the files before i, and 0 from there on. Assumes nothing.
+-- An array that holds the places of the files before i, and 0 from there on: one file more, and the end. Assumes nothing.
 use mathlib.Core.Path.{_≡_, refl, sym, ap, _∙_}
 use mathlib.Core.List.{List}
 use Prim.Native.Nat.{ℕ, zero, suc, _+_, _*_, _<_, _≤_}
 use native.Mathlib.Omega.{arith}
 use native.Mathlib.Numerals.{add-one}
+use native.Mathlib.Decide.{decLt}
 use borrow.Author.Count.{below-more}
 use borrow.Author.Tests.{lt-ltb, le-ltb}
 use lib.ListN.{length, getD, set, length-set, replicate}
@@ -58,24 +59,15 @@ module _ {s : List ℕ} {n i p q : ℕ} {places : List ℕ} (h : Placed s n i p 
         empty = λ (k : ℕ) (m : i + 1 ≤ k). getD-set-other places i k p 0 (λ (z : k ≡ i). omega arith) ∙ h .empty k (omega arith);
       })
 
-  -- there is no file i
-  pub placed-out : {after : List ℕ} → n ≤ i → after ≡ places → Placed s n (i + 1) q after
-  unfolding pick
-  placed-out l e =
-      rw e
-      (record {
-        few = omega arith;
-        near = omega (arith, h .near);
-        here = next-place;
-        size = h .size;
-        filled = below-more (λ (k : ℕ). getD places k 0 ≡ placeIn s n k) i (h .filled) (h .empty i (omega arith) ∙ rw (le-ltb i n l));
-        empty = λ (k : ℕ) (m : i + 1 ≤ k). h .empty k (omega arith);
-      })
-
-pub placed-all : {s : List ℕ} {n i p : ℕ} {places : List ℕ} → Placed s n i p places → 32 ≤ i → places ≡ filePlaces s n
-unfolding filePlaces
-placed-all {s} {n} {i} {p} {places} h l =
+-- file i is the first past the last that has a place
+pub placed-all : {s : List ℕ} {n most i p : ℕ} {places : List ℕ} → Placed s n i p places → most ≤ i → (most < 32 → most ≡ n) → places ≡ filePlaces s n
+unfolding filePlaces pick
+placed-all {s} {n} {most} {i} {p} {places} h l all =
     ext-getD 0 places (from (placeIn s n) 0 32) (h .size ∙ sym (length-from (placeIn s n) 0 32))
     (λ (k : ℕ) (m : k < length places).
     let e : 0 + k ≡ k = omega arith in
-    h .filled k (omega (arith, h .size)) ∙ sym (from-at (placeIn s n) 0 32 k (omega (arith, h .size)) ∙ ap (placeIn s n) e))
+    each k (omega (arith, h .size)) (decLt k i) ∙ sym (from-at (placeIn s n) 0 32 k (omega (arith, h .size)) ∙ ap (placeIn s n) e))
+  where
+    each : (k : ℕ) → k < 32 → Dec (k < i) → getD places k 0 ≡ placeIn s n k
+    each k m (yes q) = h .filled k q
+    each k m (no q) = let e : most ≡ n = all (omega arith) in h .empty k (omega arith) ∙ rw (le-ltb k n (omega arith))

@@ -4,6 +4,7 @@ pub mod Reads
 pub mod Listed
 pub mod Places
 pub mod Repeats
+pub mod Prints
 pub mod Decides
 pub mod Order
 pub mod Flags

@@ -1,15 +1,15 @@
 // A sheet: the refusals 25 to 31, or a table of where its records lie.
 ghost use mathlib.Core.Path.{_≡_};
-ghost use Prim.Native.Nat.{_+_, _*_, _<_, _≤_};
+ghost use Prim.Native.Nat.{_+_, _-_, _*_, _<_, _≤_};
 ghost use lib.ListN.{length};
 ghost use Rattle.records.specs.Layout.{bytesAt, pathHere, sourceHere, fileHere, sizeOf};
-ghost use Rattle.records.specs.Readers.{headAt, pathAt};
+ghost use Rattle.records.specs.Readers.{pathAt};
 ghost use Rattle.sheet.specs.Twice.{sameBytes, sameSource, among, repeats};
-ghost use Rattle.sheet.specs.Places.{pathsFrom, sourcesFrom, filePlaces};
+ghost use Rattle.sheet.specs.Places.{pathsFrom, sourcesFrom, placeOf, filePlaces};
 ghost use Rattle.sheet.specs.Sheets.{readOf};
 ghost use Rattle.sheet.specs.laws.Ended.{Held, endedOf, tableAt};
+ghost use Rattle.sheet.specs.laws.Prints.{step, printHere, Printed};
 use bits::Cursor;
-use records::Head;
 use records::State;
 use records::Step;
 
@@ -46,6 +46,13 @@ struct Ended {
 
 // A number of 8 bits where one of 64 is asked for.
 fn wide(x: u8) -> usize
+    ensures { λ r. ⌜ r ≡ x ⌝ }
+{
+    x as usize
+}
+
+// A place as a position is.
+fn place(x: u32) -> usize
     ensures { λ r. ⌜ r ≡ x ⌝ }
 {
     x as usize
@@ -116,11 +123,16 @@ fn same_bytes(s: &[u8], a: usize, b: usize, n: usize) -> bool
     true
 }
 
-// Whether the files at a and b, whose heads are g and h, have one path: their lengths settle most pairs.
-fn paths_match(s: &[u8], a: usize, g: Head, b: usize, h: Head) -> bool
-    requires { ⌜ (a < 0x1000000000) × (b < 0x1000000000) × (g ≡ headAt (now s) a) × (h ≡ headAt (now s) b) ⌝ }
+// Whether the files at a and b, whose paths have the prints x and y, have one path: their prints settle nearly all pairs.
+fn paths_match(s: &[u8], a: usize, x: u64, b: usize, y: u64) -> bool
+    requires { ⌜ (a < 0x1000000000) × (b < 0x1000000000) × (x ≡ printHere (now s) a) × (y ≡ printHere (now s) b) ⌝ }
     ensures { λ r. ⌜ r ≡ sameBytes (pathHere (now (s .entry)) a) (pathHere (now (s .entry)) b) ⌝ }
 {
+    if x != y {
+        return false;
+    }
+    let g = records::head_at(s, a);
+    let h = records::head_at(s, b);
     let n = g.length;
     let m = h.length;
     if n != m {
@@ -152,54 +164,94 @@ pub fn same_path(s: &[u8], at: usize, t: &[u8]) -> bool
     true
 }
 
-// The bit position past a file at a with the head h.
-fn past_head(a: usize, h: Head) -> usize
-    requires { ⌜ a < 0x1000000000 ⌝ }
-    ensures { λ r. ⌜ (r ≡ a + (15 + 8 * (h .length))) × (r ≤ a + 2055) ⌝ }
-{
-    a + (15 + 8 * wide(h.length))
-}
-
 // The bit position past the file at a.
 fn past_file(s: &[u8], a: usize) -> usize
     requires { ⌜ a < 0x1000000000 ⌝ }
     ensures { λ r. ⌜ (r ≡ a + sizeOf (fileHere (now (s .entry)) a)) × (r ≤ a + 2055) ⌝ }
 {
-    past_head(a, records::head_at(s, a))
+    let h = records::head_at(s, a);
+    a + (15 + 8 * wide(h.length))
+}
+
+// How many of n files have a place: at most 32.
+fn few(n: usize) -> usize
+    ensures { λ r. ⌜ (r ≤ n) × (r ≤ 32) × (r < 32 → r ≡ n) ⌝ }
+{
+    if n < 32 { n } else { 32 }
 }
 
 // The bit position of each of the first n files, and 0 past them, so that each is reached in one step.
 pub fn file_places(s: &[u8], n: usize) -> [u32; 32]
     ensures { λ r. ⌜ r ≡ filePlaces (now (s .entry)) n ⌝ }
 {
+    let most = few(n);
     let mut places = [0u32; 32];
     let mut i: usize = 0;
     let mut p: usize = 0;
-    while i < 32 {
-        if i < n {
-            places[i] = p as u32;
-        }
+    while i < most {
+        places[i] = p as u32;
         p = past_file(s, p);
         i += 1;
     }
     places
 }
 
-// Whether one of the n files from bit position `from` on has the path of the file at a.
-fn path_again(s: &[u8], a: usize, from: usize, n: usize) -> bool
-    requires { ⌜ (a < 0x1000000000) × (n ≤ 32) × (from + 2055 * n < 0x1000000000) ⌝ }
-    ensures { λ r. ⌜ r ≡ among sameBytes (pathHere (now (s .entry)) a) (pathsFrom (now (s .entry)) from n) ⌝ }
+// ---- the print of a path: a number that equal paths share, and few others
+
+// A print with one field more: both halves of it count, and no sum passes 64 bits.
+fn with_field(print: u64, x: u64) -> u64
+    ensures { λ r. ⌜ r ≡ step print x ⌝ }
 {
-    let g = records::head_at(s, a);
-    let mut p = from;
-    let mut left = n;
+    print % 0x1_0000_0000 * 0x100_0193 + x / 0x1_0000_0000 * 0x9e37_79b1 + x % 0x1_0000_0000
+}
+
+// The print of the path of the file at a: of its length, of its bytes by eights, and of those that are left.
+fn print_of(s: &[u8], a: usize) -> u64
+    requires { ⌜ a < 0x1000000000 ⌝ }
+    ensures { λ r. ⌜ r ≡ printHere (now (s .entry)) a ⌝ }
+{
+    let h = records::head_at(s, a);
+    let n = wide(h.length);
+    let mut print = n as u64;
+    let mut p = a + 15;
+    let mut left = n / 8;
     while 0 < left {
-        let h = records::head_at(s, p);
-        if paths_match(s, a, g, p, h) {
+        let x = Cursor { at: p }.take(s, 64);
+        print = with_field(print, x.value);
+        p += 64;
+        left -= 1;
+    }
+    let y = Cursor { at: p }.take(s, (8 * (n % 8)) as u32);
+    with_field(print, y.value)
+}
+
+// The prints of the paths of the first n files, whose places are known.
+fn print_paths(s: &[u8], n: usize, places: &[u32; 32]) -> [u64; 32]
+    requires { ⌜ (n ≤ 32) × (now places ≡ filePlaces (now s) n) ⌝ }
+    ensures { λ r. ⌜ Printed (now (s .entry)) r n ⌝ }
+{
+    let mut prints = [0u64; 32];
+    let mut k: usize = 0;
+    while k < n {
+        prints[k] = print_of(s, place(places[k]));
+        k += 1;
+    }
+    prints
+}
+
+// Whether a file past file i, of the first n, has the path of file i.
+fn path_again(s: &[u8], i: usize, n: usize, places: &[u32; 32], prints: &[u64; 32]) -> bool
+    requires { ⌜ (i < n) × (n ≤ 32) × (now places ≡ filePlaces (now s) n) × Printed (now s) (now prints) n ⌝ }
+    ensures { λ r. ⌜ r ≡ among sameBytes (pathHere (now (s .entry)) (placeOf (now (s .entry)) 0 i)) (pathsFrom (now (s .entry)) (placeOf (now (s .entry)) 0 (i + 1)) (n - (i + 1))) ⌝ }
+{
+    let a = place(places[i]);
+    let x = prints[i];
+    let mut j = i + 1;
+    while j < n {
+        if paths_match(s, a, x, place(places[j]), prints[j]) {
             return true;
         }
-        p = past_head(p, h);
-        left -= 1;
+        j += 1;
     }
     false
 }
@@ -209,15 +261,14 @@ fn paths_twice(s: &[u8], n: usize) -> bool
     requires { ⌜ n ≤ 32 ⌝ }
     ensures { λ r. ⌜ r ≡ repeats sameBytes (pathsFrom (now (s .entry)) 0 n) ⌝ }
 {
-    let mut p: usize = 0;
-    let mut left = n;
-    while 0 < left {
-        let q = past_file(s, p);
-        left -= 1;
-        if path_again(s, p, q, left) {
+    let places = file_places(s, n);
+    let prints = print_paths(s, n, &places);
+    let mut file: usize = 0;
+    while file < n {
+        if path_again(s, file, n, &places, &prints) {
             return true;
         }
-        p = q;
+        file += 1;
     }
     false
 }

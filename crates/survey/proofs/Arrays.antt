@@ -151,7 +151,7 @@ module _ (G : Spot → Type 0) (l : ℕ) (low : l ≤ 16) (f : ℕ → List ℕ)
       }
 
   -- no item at all
-  pub collect-none : (w : ℕ) → ((q : ℕ) → length (f q) ≡ w) → f 0 ≡ replicate w 0 → base + 1 + w * 32 ≤ length old → {e : ℕ} → Bare 91 93 s p e → Collected G l f s p base e old old
+  pub collect-none : (w : ℕ) → ((q : ℕ) → length (f q) ≡ w) → f 0 ≡ replicate w 0 → base + 1 + w * 32 ≤ length old → {e : ℕ} → Bare s p e → Collected G l f s p base e old old
   collect-none w wide zeros fits b =
       record { items = []; opens = b .opens; reads = bare-reads (spot l) b; few = omega arith; each = all-none; sized = refl; put = whole }
     where

@@ -44,7 +44,7 @@ files-told s p past d =
     }
 
 module _ (s : Text) (p : ℕ) {old : List ℕ} (size : length old ≡ 2470) where
-  pub files-none : (p ≡ 0 → ⊥) → {e : ℕ} → Bare 91 93 s p e → Files s p e old old
+  pub files-none : (p ≡ 0 → ⊥) → {e : ℕ} → Bare s p e → Files s p e old old
   files-none past b = files-told s p past (collect-none (Whole s) 13 (omega arith) (block s) s p 5 77 (block-length s) (no-entry s) (omega arith) b)
 
   pub files-start : {i : ℕ} → i ≡ skip s (p + 1) → Collecting (Whole s) 13 (block s) s p 5 old i 0 old

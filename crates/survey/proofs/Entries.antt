@@ -1,26 +1,24 @@
--- The entries: their members, the rows of the objects in them, and their blocks. Assumes nothing.
+-- The entries: their members, the rows of the objects in them, and their blocks. The idea: what is kept of the objects in an entry is what reading each by itself
+-- tells, and 0 where there is none. Assumes nothing.
 use mathlib.Core.Path.{_≡_, refl, sym, ap, subst, _∙_}
 use mathlib.Core.Bool.{false, not, _&&_, _||_}
-use mathlib.Core.List.{List, [], _∷_, _++_, map}
-use Prim.Native.Nat.{ℕ, suc, _+_, _≤_, _<_}
+use mathlib.Core.List.{List, [], _∷_, _++_}
+use Prim.Native.Nat.{ℕ, _+_, _≤_, _<_}
 use native.Mathlib.Decide.{ℕ-discrete}
 use native.Mathlib.Omega.{arith}
 use lib.Dec.{eqb, ltb}
 use lib.ListN.{length, getD, set, replicate}
-use lib.Seq.{getD-set-other}
 use borrow.Author.Tests.{eq-eqb, ne-eqb}
 use Rattle.text.specs.Reading.{Text, pick, scan}
 use Rattle.text.specs.declared.Scan.{Scan}
 use Rattle.text.specs.declared.Scan.the-variants.{Done}
 use Rattle.text.specs.Class.{skip}
 use Rattle.text.specs.Strings.{string}
-use Rattle.text.specs.laws.Peek.{skip-ge}
-use Rattle.text.specs.laws.Readers.{pick-true, past-strict}
-use Rattle.json.specs.Tree.{Tree, arr, obj, Trees, trees}
-use Rattle.json.specs.Document.{name, value}
-use Rattle.json.specs.laws.Forward.{name-past}
+use Rattle.text.specs.laws.Readers.{pick-true}
+use Rattle.json.specs.Tree.{Tree, obj}
+use Rattle.json.specs.Document.{name}
 use Rattle.values.specs.Stands.{Stands}
-use Rattle.values.specs.laws.Outs.{Gives, scan-done}
+use Rattle.values.specs.laws.Outs.{Gives}
 use Rattle.manifest.specs.Names.{bytes}
 use Rattle.manifest.specs.laws.Judge.{tag}
 use Rattle.table.specs.Table.{lineAt, wantedOf, valueKind}
@@ -29,89 +27,99 @@ use Rattle.table.specs.laws.Some.{some}
 use Rattle.index.specs.Index.{column, itemsOf, rows, itemRow, entryRow, block}
 use Rattle.index.specs.laws.Put.{Put, put-none, put-before, put-same, put-length}
 use Rattle.fills.specs.laws.Blank.{Blank, blank-on, put-rest}
-use Rattle.survey.specs.laws.Walked.{Spot, Fine, Fits, Entered, slot, Row, Inner, gone, stood, Machines, MachinesAt, Told, Array, Puts, Noted}
+use Rattle.survey.specs.laws.Walked.{Fine, Fits, Entered, slot, Noted, Row, Inner, gone, stood, Kept, RowAt, clockNumbers, Clocks, ClocksAt, Machines, MachinesAt, Told, Holds, Puts, EntryPuts, EntryHolds}
 use Rattle.survey.proofs.Stepping.{stands-low, entered}
-use Rattle.survey.proofs.Walking.{Walking, walk-past, noted-other, noted-this}
+use Rattle.survey.proofs.Walking.{Walking}
 use Rattle.survey.proofs.Objects.{scalar-fine, scalars-but, stands-same, its-members, row-value, row-stands, row-fine}
 use Rattle.survey.proofs.Arrays.{long, array-value, array-places, array-fine}
-use Rattle.survey.proofs.Known.{Known, known-column, known-fine, line-0, line-1, line-2, line-3, line-4, line-5, line-6, line-9, line-10, line-11, line-12, line-13}
-use Rattle.survey.proofs.Items.{leaf-sync, leaf-machine, inner-known, inner-fine}
+use Rattle.survey.proofs.Known.{known-column, known-fine, line-0, line-1, line-2, line-3, line-4, line-5, line-6, line-9, line-10, line-11, line-12, line-13}
+use Rattle.survey.proofs.Items.{leaf-sync, leaf-machine, inner-of, inner-known, inner-fine}
+use Rattle.survey.proofs.Holding.{object-fits, array-fits, puts-this, puts-none, holds-none, holds-kept, found-on}
 
--- ---- a member with an array in it
+-- ---- a member
 
--- no value of a member stands at 0
-pub value-past : (s : Text) (i : ℕ) {r : Scan} → r ≡ scan (name s i) → {j : ℕ} → r ≡ Done j → {v : ℕ} → v ≡ skip s j → v ≡ 0 → ⊥
-value-past s i er {j} re ev z =
-    let w = scan-done (name s i) (sym er ∙ re) in
-    let a : i < j = past-strict (name-past s i) (w .1) in
-    omega (arith, skip-ge s j)
+wants-machines : wantedOf 7 ≡ 5
+unfolding wantedOf pick
+wants-machines = refl
 
--- the columns of arrays: T is what is told of one that is there
-module _ (T : ℕ → List ℕ → List ℕ → Type 0) where
-  pub array-none : (ix : List ℕ) → Array T 0 ix ix
-  array-none ix = record { without = λ _. refl; within = λ n. absurd (n refl) }
+wants-clocks : wantedOf 4 ≡ 6
+unfolding wantedOf pick
+wants-clocks = refl
 
-  -- line n has the array
-  module _ (o n : ℕ) {line v : ℕ} {found new : List ℕ} (d : Noted o line v found new) {old mid ix : List ℕ} (a : Array T (getD found (slot o n) 0) old mid) (p : Puts T n line v mid ix) where
-    pub array-more : (line < 20 → getD new (slot o line) 0 ≡ v) → ((line ≡ n → ⊥) → getD new (slot o n) 0 ≡ getD found (slot o n) 0) → n < 20 → (v ≡ 0 → ⊥) → Array T (getD new (slot o n) 0) old ix
-    array-more this other small past = go (ℕ-discrete line n)
-      where
-        go : Dec (line ≡ n) → Array T (getD new (slot o n) 0) old ix
-        go (yes e) =
-            let l : line < 20 = omega arith in
-            let f : getD found (slot o n) 0 ≡ 0 = ap (λ (x : ℕ). getD found (slot o x) 0) (sym e) ∙ d .free l in
-            let g : getD new (slot o n) 0 ≡ v = ap (λ (x : ℕ). getD new (slot o x) 0) (sym e) ∙ this l in
-            let h : T v old ix = subst (λ (x : List ℕ). T v x ix) (a .without f) (p .this e) in
-            record {
-              without = λ z. absurd (past (sym g ∙ z));
-              within = λ _. subst (λ (x : ℕ). T x old ix) (sym g) h;
-            }
-        go (no e) =
-            let g : getD new (slot o n) 0 ≡ getD found (slot o n) 0 = other e in
-            let q : ix ≡ mid = p .other e in
-            record {
-              without = λ z. q ∙ a .without (sym g ∙ z);
-              within = λ z. subst (λ (x : ℕ). T x old ix) (sym g) (subst (λ (x : List ℕ). T (getD found (slot o n) 0) old x) (sym q) (a .within (λ y. z (g ∙ y))));
-            }
+-- `sync_to` in `clocks`
+module _ (s : Text) (i : ℕ) {r : Scan} (er : r ≡ scan (name s i)) {j : ℕ} (re : r ≡ Done j) {line : ℕ} (lo : Gives (λ k n. LineOf 4 k line) (string s i)) {v : ℕ} (ev : v ≡ skip s j) {old new : List ℕ} {e : ℕ} where
+  pub sync-entered : line ≡ 5 → Kept 3 10 s v e new → Entered 4 11 s i line v e × Puts (RowAt 3 10 s) 5 line v old new
+  sync-entered h m = (entered 4 11 s i er re lo ev refl (object-fits line-5 h (leaf-sync .wants) (m .row) (m .ends)), puts-this (RowAt 3 10 s) h (m .row))
 
--- the array was told, or nothing was put: the index has its size
-pub array-sized : (T : ℕ → List ℕ → List ℕ → Type 0) {c : ℕ} {old new : List ℕ} → (T c old new → length new ≡ length old) → Array T c old new → length new ≡ length old
-array-sized T {c} {old} {new} f a = go (ℕ-discrete c 0)
-  where
-    go : Dec (c ≡ 0) → length new ≡ length old
-    go (yes z) = ap length (a .without z)
-    go (no n) = f (a .within n)
+  pub other-entered : (line ≡ 5 → ⊥) → {k : ℕ} → k ≡ valueKind line → Fits k 11 s v e → new ≡ old → Entered 4 11 s i line v e × Puts (RowAt 3 10 s) 5 line v old new
+  other-entered n ek f q = (entered 4 11 s i er re lo ev ek f, puts-none (RowAt 3 10 s) n q)
 
--- the end in front of a row changes no column
-pub array-kept : (T : ℕ → List ℕ → List ℕ → Type 0) (k : ℕ) (e : ℕ) (row : List ℕ) {old new : List ℕ} → Array T (getD row (suc k) 0) old new → Array T (getD (set row 0 e) (suc k) 0) old new
-array-kept T k e row {old} {new} a = subst (λ (x : ℕ). Array T x old new) (sym (getD-set-other row 0 (suc k) e 0 (λ q. omega arith))) a
+-- `clocks`, if nothing was kept of `sync_to` before
+pub clocks-told : (s : Text) (p : ℕ) {own sync : List ℕ} → Row 4 11 s p own × Holds (RowAt 3 10 s) (getD own 3 0) (replicate 5 0) sync → Clocks s p (getD own 0 0) (clockNumbers own sync)
+clocks-told s p {own} {sync} (w, a) = record { own = own; sync = sync; row = w; ends = refl; inside = inner-of a; is = refl }
 
--- one member more
-module _ {o n k m : ℕ} {name : Text} (l : ℕ) (line-n : Known n o name k m) (s : Text) (p : ℕ) (T : ℕ → List ℕ → List ℕ → Type 0) (small : o < 12) {i : ℕ} {found : List ℕ} (w : Walking o l s p i found)
-    {line v e : ℕ} (en : Entered o l s i line v e) (few : line < 20 → slot o line < 5) {new : List ℕ} (d : Noted o line v found new) {old mid ix : List ℕ} where
-  pub found-on : Array T (getD found k 0) old mid → Puts T n line v mid ix → Array T (getD new k 0) old ix
-  found-on a q =
-      let b : Array T (getD found (slot o n) 0) old mid = subst (λ (x : ℕ). Array T (getD found x 0) old mid) (sym (line-n .column)) a in
-      subst (λ (x : ℕ). Array T (getD new x 0) old ix) (line-n .column)
-      (array-more T o n d b q (λ h. noted-this o l s p small w en d h (few h)) (λ ne. noted-other o l s p small w en d n (line-n .small) (line-n .place) (λ z. ne (sym z))) (line-n .small) (walk-past o l s p small w en))
-
-kind-12 : valueKind 12 ≡ 7
-unfolding valueKind lineAt pick
-kind-12 = refl
-
-array-typed : (ts : Trees) → tag (arr ts) ≡ wantedOf 7
-unfolding tag wantedOf pick
-array-typed ts = refl
-
-module _ (s : Text) (i : ℕ) {r : Scan} (er : r ≡ scan (name s i)) {j : ℕ} (re : r ≡ Done j) {line : ℕ} (lo : Gives (λ k n. LineOf 8 k line) (string s i)) {v : ℕ} (ev : v ≡ skip s j) (base : ℕ) {old new : List ℕ} {e : ℕ} where
-  pub machines-entered : line ≡ 12 → Machines s (base + 12) v e old new → Entered 8 12 s i line v e × Puts (MachinesAt s (base + 12)) 12 line v old new
-  machines-entered h m = (
-    entered 8 12 s i er re lo ev {k = 7} (sym kind-12 ∙ ap valueKind (sym h)) (record { tree = arr (trees (map (λ (x : Spot). x .1) (m .listed .items))); reads = array-value 11 s v (m .listed .opens) (m .listed .reads); typed = λ _. array-typed _ }),
-    record { other = λ n. absurd (n h); this = λ _. (e, m) },
+-- what stands in an entry
+module _ (s : Text) (base : ℕ) {line v e : ℕ} where
+  pub machine-put : {ix machine machine′ clocks : List ℕ} → line ≡ 11 → Kept 6 11 s v e machine′ → Fits (valueKind line) 12 s v e × EntryPuts s base line v ix ix machine machine′ clocks clocks
+  machine-put h m = (
+    object-fits line-11 h (leaf-machine .wants) (m .row) (m .ends),
+    record {
+      items = puts-none (MachinesAt s (base + 12)) (λ z. omega arith) refl;
+      machine = puts-this (RowAt 6 11 s) h (m .row);
+      clocks = puts-none (ClocksAt s) (λ z. omega arith) refl;
+    },
   )
 
-  pub other-entered : (line ≡ 12 → ⊥) → {k : ℕ} → k ≡ valueKind line → Fits k 12 s v e → new ≡ old → Entered 8 12 s i line v e × Puts (MachinesAt s (base + 12)) 12 line v old new
-  other-entered n ek f q = (entered 8 12 s i er re lo ev ek f, record { other = λ _. q; this = λ h. absurd (n h) })
+  pub items-put : {ix ix′ machine clocks : List ℕ} → line ≡ 12 → Machines s (base + 12) v e ix ix′ → Fits (valueKind line) 12 s v e × EntryPuts s base line v ix ix′ machine machine clocks clocks
+  items-put h m = (
+    array-fits line-12 h wants-machines (m .listed),
+    record {
+      items = puts-this (MachinesAt s (base + 12)) h (e, m);
+      machine = puts-none (RowAt 6 11 s) (λ z. omega arith) refl;
+      clocks = puts-none (ClocksAt s) (λ z. omega arith) refl;
+    },
+  )
+
+  pub clocks-put : {ix machine clocks clocks′ : List ℕ} → line ≡ 13 → Clocks s v e clocks′ → Fits (valueKind line) 12 s v e × EntryPuts s base line v ix ix machine machine clocks clocks′
+  clocks-put h m = (
+    object-fits line-13 h wants-clocks (m .row) (m .ends),
+    record {
+      items = puts-none (MachinesAt s (base + 12)) (λ z. omega arith) refl;
+      machine = puts-none (RowAt 6 11 s) (λ z. omega arith) refl;
+      clocks = puts-this (ClocksAt s) h (e, m);
+    },
+  )
+
+  pub other-put : {ix machine clocks : List ℕ} → (line ≡ 11 → ⊥) → (line ≡ 12 → ⊥) → (line ≡ 13 → ⊥) → {k : ℕ} → k ≡ valueKind line → Fits k 12 s v e → Fits (valueKind line) 12 s v e × EntryPuts s base line v ix ix machine machine clocks clocks
+  other-put a b c ek f = (
+    subst (λ (x : ℕ). Fits x 12 s v e) ek f,
+    record { items = puts-none (MachinesAt s (base + 12)) b refl; machine = puts-none (RowAt 6 11 s) a refl; clocks = puts-none (ClocksAt s) c refl },
+  )
+
+-- ---- the walk over an entry
+
+pub entry-none : (s : Text) (base : ℕ) (ix machine clocks : List ℕ) → EntryHolds s base (replicate 5 0) ix ix machine machine clocks clocks
+entry-none s base ix machine clocks =
+    record { items = holds-none (MachinesAt s (base + 12)) ix; machine = holds-none (RowAt 6 11 s) machine; clocks = holds-none (ClocksAt s) clocks }
+
+-- one member more
+pub entry-on : (s : Text) (p base : ℕ) {i : ℕ} {found : List ℕ} → Walking 8 12 s p i found → {line v e : ℕ} → Entered 8 12 s i line v e → {new : List ℕ} → Noted 8 line v found new → {ix₀ ix ix′ machine₀ machine machine′ clocks₀ clocks clocks′ : List ℕ}
+    → EntryHolds s base found ix₀ ix machine₀ machine clocks₀ clocks → EntryPuts s base line v ix ix′ machine machine′ clocks clocks′ → EntryHolds s base new ix₀ ix′ machine₀ machine′ clocks₀ clocks′
+entry-on s p base w en d h q =
+    record {
+      items = found-on 12 line-12 s p (MachinesAt s (base + 12)) (omega arith) w en d (h .items) (q .items);
+      machine = found-on 12 line-11 s p (RowAt 6 11 s) (omega arith) w en d (h .machine) (q .machine);
+      clocks = found-on 12 line-13 s p (ClocksAt s) (omega arith) w en d (h .clocks) (q .clocks);
+    }
+
+-- the end in front of the row
+pub entry-kept : (s : Text) (base e : ℕ) (row : List ℕ) {ix₀ ix machine₀ machine clocks₀ clocks : List ℕ} → EntryHolds s base row ix₀ ix machine₀ machine clocks₀ clocks → EntryHolds s base (set row 0 e) ix₀ ix machine₀ machine clocks₀ clocks
+entry-kept s base e row h =
+    record {
+      items = holds-kept (MachinesAt s (base + 12)) 2 e row (h .items);
+      machine = holds-kept (RowAt 6 11 s) 1 e row (h .machine);
+      clocks = holds-kept (ClocksAt s) 3 e row (h .clocks);
+    }
 
 -- ---- flaws in what is inside
 
@@ -153,7 +161,7 @@ none-listed s = refl
 
 -- ---- an entry
 
-module _ (s : Text) (p : ℕ) (past : p ≡ 0 → ⊥) (base : ℕ) {own machine clocks sync old mid : List ℕ} (w : Row 8 12 s p own) (a : Array (MachinesAt s (base + 12)) (getD own 3 0) old mid)
+module _ (s : Text) (p : ℕ) (past : p ≡ 0 → ⊥) (base : ℕ) {own machine clocks sync old mid : List ℕ} (w : Row 8 12 s p own) (a : Holds (MachinesAt s (base + 12)) (getD own 3 0) old mid)
     (im : Inner 6 11 s (getD own 2 0) machine) (ic : Inner 4 11 s (getD own 4 0) clocks) (is : Inner 3 10 s (getD clocks 3 0) sync) where
   entry-fine : Fine 8 (obj (its-members 8 12 s p w))
   unfolding wantedOf pick
@@ -188,8 +196,8 @@ module _ (s : Text) (p : ℕ) (past : p ≡ 0 → ⊥) (base : ℕ) {own machine
           let e : length (itemsOf s (getD own 3 0)) ≡ length (m .items) = ap length (array-places 11 s (getD own 3 0) (m .opens) (m .reads) (omega arith) n) ∙ long (m .items) in
           omega (arith, m .few)
 
-  items-put : Blank old base → base + 77 ≤ length old → Put old (base + 12) (length (itemsOf s (getD own 3 0)) ∷ rows (λ k. itemRow s (getD (itemsOf s (getD own 3 0)) k 0)) 32) mid
-  items-put b fits = go (ℕ-discrete (getD own 3 0) 0)
+  listed-put : Blank old base → base + 77 ≤ length old → Put old (base + 12) (length (itemsOf s (getD own 3 0)) ∷ rows (λ k. itemRow s (getD (itemsOf s (getD own 3 0)) k 0)) 32) mid
+  listed-put b fits = go (ℕ-discrete (getD own 3 0) 0)
     where
       go : Dec (getD own 3 0 ≡ 0) → Put old (base + 12) (length (itemsOf s (getD own 3 0)) ∷ rows (λ k. itemRow s (getD (itemsOf s (getD own 3 0)) k 0)) 32) mid
       go (yes z) =
@@ -222,13 +230,49 @@ module _ (s : Text) (p : ℕ) (past : p ≡ 0 → ⊥) (base : ℕ) {own machine
       let s3 : getD sync 3 0 ≡ column s (column s (column s p (bytes "clocks")) (bytes "sync_to")) (bytes "clock") = sym (inner-known line-2 10 low″ s (getD clocks 3 0) is) ∙ ap (λ (q : ℕ). column s q (bytes "clock")) c3 in
       λ t. e1 t ∷ e2 t ∷ m1 t ∷ e3 t ∷ e4 t ∷ c1 t ∷ c2 t ∷ c3 t ∷ s1 t ∷ s2 t ∷ s3 t ∷ c4 t ∷ length (itemsOf s (e3 t)) ∷ rows (λ k. itemRow s (getD (itemsOf s (e3 t)) k 0)) 32
 
-  pub entry-told : length old ≡ 2470 → base + 77 ≤ 2470 → {new : List ℕ} → Put mid base numbers new → Told s base p (getD own 0 0) old new
-  entry-told size fits q =
+  rows-told : length old ≡ 2470 → base + 77 ≤ 2470 → {new : List ℕ} → Put mid base numbers new → Told s base p (getD own 0 0) old new
+  rows-told size fits q =
       record {
         tree = obj (its-members 8 12 s p w);
         reads = row-value 8 12 s p w;
         fine = entry-fine;
         sized = put-length q ∙ entry-sized;
         few = entry-few;
-        put = λ b. put-same block-is (put-before refl (items-put b (omega arith)) q);
+        put = λ b. put-same block-is (put-before refl (listed-put b (omega arith)) q);
       }
+
+-- ---- `clocks` as it is kept
+
+-- the numbers that are kept, of the rows of `clocks` and of its `sync_to`; both may be absent
+record Timed (s : Text) (c : ℕ) (numbers : List ℕ) : Type 0 where
+  own : List ℕ
+  sync : List ℕ
+  there : Inner 4 11 s c own
+  inside : Inner 3 10 s (getD own 3 0) sync
+  is : numbers ≡ clockNumbers own sync
+
+timed : {s : Text} {c : ℕ} {numbers : List ℕ} → Holds (ClocksAt s) c (replicate 8 0) numbers → Timed s c numbers
+timed {s} {c} {numbers} a = go (ℕ-discrete c 0)
+  where
+    go : Dec (c ≡ 0) → Timed s c numbers
+    go (yes z) =
+        record {
+          own = replicate 5 0;
+          sync = replicate 5 0;
+          there = subst (λ (x : ℕ). Inner 4 11 s x (replicate 5 0)) (sym z) gone;
+          inside = gone;
+          is = a .without z;
+        }
+    go (no n) = let m = a .within n .1 in record { own = m .own; sync = m .sync; there = stood n (m .row); inside = m .inside; is = m .is }
+
+-- the numbers of an entry, as they are kept
+abbrev pub entryNumbers : List ℕ → List ℕ → List ℕ → List ℕ
+entryNumbers own machine clocks =
+    getD own 1 0 ∷ getD own 2 0 ∷ getD machine 1 0 ∷ getD own 3 0 ∷ getD own 4 0 ∷ getD clocks 1 0 ∷ getD clocks 2 0 ∷ getD clocks 3 0
+    ∷ getD clocks 5 0 ∷ getD clocks 6 0 ∷ getD clocks 7 0 ∷ getD clocks 4 0 ∷ []
+
+pub entry-told : (s : Text) (p : ℕ) → (p ≡ 0 → ⊥) → (base : ℕ) {own machine clocks old mid : List ℕ} → Row 8 12 s p own → EntryHolds s base own old mid (replicate 5 0) machine (replicate 8 0) clocks → length old ≡ 2470 → base + 77 ≤ 2470
+    → {new : List ℕ} → Put mid base (entryNumbers own machine clocks) new → Told s base p (getD own 0 0) old new
+entry-told s p past base {own} {machine} w h size fits q =
+    let t = timed (h .clocks) in
+    rows-told s p past base w (h .items) (inner-of (h .machine)) (t .there) (t .inside) size fits (put-same (ap (entryNumbers own machine) (t .is)) q)

@@ -14,12 +14,12 @@ use Rattle.json.specs.laws.Firm.{after-closed, after-comma, items-turn, many-em
 use Rattle.survey.specs.laws.Bare.{Bare}
 
 -- a is the byte at p, k is past the whitespace after it, and b the byte there
-pub bare-told : {opener close a b k p : ℕ} {s : Text} → a ≡ peek s p → a ≡ opener → k ≡ skip s (p + 1) → b ≡ peek s k → b ≡ close → Bare opener close s p (k + 1)
+pub bare-told : {a b k p : ℕ} {s : Text} → a ≡ peek s p → a ≡ 91 → k ≡ skip s (p + 1) → b ≡ peek s k → b ≡ 93 → Bare s p (k + 1)
 bare-told {s = s} ea o ek eb c = record { opens = sym ea ∙ o; closes = ap (peek s) (sym ek) ∙ sym eb ∙ c; past = ap (λ (n : ℕ). n + 1) ek }
 
 -- nothing is read
-pub bare-reads : {A : Type 0} (one : Reader A) {opener close : ℕ} {s : Text} {p e : ℕ} → Bare opener close s p e → many one close s (p + 1) ≡ done [] e
-bare-reads one {close = close} {s = s} {p = p} b = many-empty one close s (p + 1) (b .closes) ∙ ap (done []) (sym (b .past))
+pub bare-reads : {A : Type 0} (one : Reader A) {s : Text} {p e : ℕ} → Bare s p e → many one 93 s (p + 1) ≡ done [] e
+bare-reads one {s} {p} b = many-empty one 93 s (p + 1) (b .closes) ∙ ap (done []) (sym (b .past))
 
 -- the items pre were read, and the next one starts at i
 pub record Going {A : Type 0} (one : Reader A) (close : ℕ) (s : Text) (first i : ℕ) (pre : List A) : Type 0 where

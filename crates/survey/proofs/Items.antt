@@ -2,7 +2,8 @@
 use mathlib.Core.Path.{_≡_, refl, sym, ap, subst, _∙_}
 use mathlib.Core.Bool.{false, not, _&&_, _||_}
 use mathlib.Core.List.{List, [], _∷_}
-use Prim.Native.Nat.{ℕ, suc, _+_, _-_, _*_, _≤_, _<_}
+use Prim.Native.Nat.{ℕ, _+_, _*_, _≤_, _<_}
+use native.Mathlib.Decide.{ℕ-discrete}
 use native.Mathlib.Omega.{arith}
 use lib.Dec.{eqb, ltb}
 use lib.ListN.{length, getD, set, replicate, length-set}
@@ -12,12 +13,12 @@ use Rattle.text.specs.Class.{skip}
 use Rattle.text.specs.laws.Readers.{pick-true}
 use Rattle.json.specs.Tree.{Tree, obj}
 use Rattle.values.specs.Stands.{Stands}
-use Rattle.table.specs.Table.{lineAt, wantedOf, firstLine}
+use Rattle.table.specs.Table.{lineAt, wantedOf}
 use Rattle.table.specs.laws.Some.{some}
 use Rattle.index.specs.Index.{column, itemsOf, rows, itemRow}
 use Rattle.index.specs.laws.Put.{Put, put-one, put-more, put-same}
 use Rattle.survey.specs.laws.Bare.{Bare}
-use Rattle.survey.specs.laws.Walked.{Spot, Fine, slot, Row, Inner, gone, stood, Machines}
+use Rattle.survey.specs.laws.Walked.{Spot, Fine, slot, Row, Inner, gone, stood, RowAt, Machines, Holds}
 use Rattle.survey.proofs.Objects.{scalar-fine, scalars-but, unseen, stands-same, its-members, row-value, row-stands, row-column, row-fine}
 use Rattle.survey.proofs.Known.{Known, known-column, line-7, line-8}
 use Rattle.survey.proofs.Arrays.{places, Collecting, Collected, collect-start, collect-none, collect-on, collect-end, array-places}
@@ -54,14 +55,17 @@ leaf-fine o l f low s p w =
 
 -- ---- an object that may be absent
 
-pub inner-gone : (o l : ℕ) (s : Text) {p : ℕ} → p ≡ 0 → Inner o l s p (1 ∷ 0 ∷ 0 ∷ 0 ∷ 0 ∷ [])
-inner-gone o l s e = subst (λ (x : ℕ). Inner o l s x (1 ∷ 0 ∷ 0 ∷ 0 ∷ 0 ∷ [])) (sym e) gone
+-- as an object's column tells it, if all was 0 before
+pub inner-of : {o l : ℕ} {s : Text} {c : ℕ} {new : List ℕ} → Holds (RowAt o l s) c (replicate 5 0) new → Inner o l s c new
+inner-of {o} {l} {s} {c} {new} a = go (ℕ-discrete c 0)
+  where
+    go : Dec (c ≡ 0) → Inner o l s c new
+    go (yes z) = subst (Inner o l s c) (sym (a .without z)) (subst (λ (x : ℕ). Inner o l s x (replicate 5 0)) (sym z) gone)
+    go (no n) = stood n (a .within n)
 
 pub inner-column : (o l : ℕ) → l ≤ 15 → (s : Text) {p : ℕ} {row : List ℕ} → Inner o l s p row → (j : ℕ) → j < 20 → lineAt j .place ≡ o → column s p (lineAt j .name) ≡ getD row (slot o j) 0
 unfolding column
-inner-column o l low s gone j h g =
-    let e : suc (j - firstLine o) ≡ slot o j = omega arith in
-    pick-true _ _ (eq-eqb 0 0 refl) ∙ sym (unseen 4 (j - firstLine o)) ∙ ap (λ (x : ℕ). getD (1 ∷ 0 ∷ 0 ∷ 0 ∷ 0 ∷ []) x 0) e
+inner-column o l low s gone j h g = pick-true _ _ (eq-eqb 0 0 refl) ∙ sym (unseen 5 (slot o j))
 inner-column o l low s {p} (stood n w) j h g = row-column o l s p w low n j h g
 
 pub inner-known : {j o k m : ℕ} {n : Text} → Known j o n k m → (l : ℕ) → l ≤ 15 → (s : Text) (p : ℕ) {row : List ℕ} → Inner o l s p row → column s p n ≡ getD row k 0
@@ -110,7 +114,7 @@ machines-told s p base past d =
     }
 
 module _ (s : Text) (p base : ℕ) {old : List ℕ} (size : length old ≡ 2470) (fits : base + 65 ≤ 2470) where
-  pub machines-none : (p ≡ 0 → ⊥) → {e : ℕ} → Bare 91 93 s p e → Machines s base p e old old
+  pub machines-none : (p ≡ 0 → ⊥) → {e : ℕ} → Bare s p e → Machines s base p e old old
   machines-none past b = machines-told s p base past (collect-none Sound 11 (omega arith) (itemRow s) s p base 2 (wide-item s) (no-item s) (omega arith) b)
 
   pub machines-start : {i : ℕ} → i ≡ skip s (p + 1) → Collecting Sound 11 (itemRow s) s p base old i 0 old

@@ -6,6 +6,7 @@ pub mod Objects
 pub mod Arrays
 pub mod Known
 pub mod Items
+pub mod Holding
 pub mod Entries
 pub mod Blocks
 pub mod Manifests

@@ -1,23 +1,18 @@
--- The manifest object: its members, and its index. Assumes nothing.
+-- The manifest object: its members, and its index. The idea: what is kept of `trace_time` is what reading it by itself tells, and 0 where there is none.
+-- Assumes nothing.
 use mathlib.Core.Path.{_≡_, refl, sym, ap, subst, _∙_}
 use mathlib.Core.Bool.{Bool, true, false, not, _&&_, _||_}
-use mathlib.Core.List.{List, [], _∷_, _++_, map}
+use mathlib.Core.List.{List, [], _∷_, _++_}
 use Prim.Native.Nat.{ℕ, _*_, _≤_, _<_}
 use native.Mathlib.Decide.{ℕ-discrete}
 use native.Mathlib.Omega.{arith}
 use lib.Dec.{eqb, ltb}
-use lib.ListN.{length, getD}
+use lib.ListN.{length, getD, set, replicate}
 use borrow.Author.Tests.{eq-eqb, ne-eqb, le-ltb}
-use Rattle.text.specs.Reading.{Text, pick, scan}
-use Rattle.text.specs.declared.Scan.{Scan}
-use Rattle.text.specs.declared.Scan.the-variants.{Done}
-use Rattle.text.specs.Class.{skip}
-use Rattle.text.specs.Strings.{string}
+use Rattle.text.specs.Reading.{Text, pick}
 use Rattle.text.specs.laws.Readers.{pick-true}
-use Rattle.json.specs.Tree.{Tree, arr, obj, Trees, trees}
-use Rattle.json.specs.Document.{name}
+use Rattle.json.specs.Tree.{Tree, obj}
 use Rattle.values.specs.Stands.{Stands}
-use Rattle.values.specs.laws.Outs.{Gives}
 use Rattle.places.specs.Places.{membersAt, placesOf}
 use Rattle.manifest.specs.Names.{bytes}
 use Rattle.manifest.specs.Rows.{any}
@@ -26,7 +21,6 @@ use Rattle.manifest.specs.laws.Judge.{tag}
 use Rattle.outline.specs.Outline.{not-1-at, versionPlaces, versionsBy, versionsAt}
 use Rattle.members.specs.Members.{memberRefusalIn, memberRefusalAt}
 use Rattle.table.specs.Table.{lineAt, wantedOf, valueKind}
-use Rattle.table.specs.laws.Looking.{LineOf}
 use Rattle.table.specs.laws.Some.{some}
 use Rattle.members.specs.laws.Judged.{both-flaws}
 use Rattle.index.specs.Index.{column, itemsOf, rows, headRow, block, indexOf, manyItems, tooMany}
@@ -34,33 +28,58 @@ use Rattle.index.specs.laws.Back.{index-long, block-length}
 use Rattle.index.specs.laws.Put.{Put, put-none, put-before, put-same, put-all}
 use Rattle.index.specs.laws.Rows.{rows-length}
 use Rattle.fills.specs.laws.Blank.{Blank, blank-zeros, blank-on, put-rest}
-use Rattle.survey.specs.laws.Walked.{Spot, Fine, Fits, Entered, slot, Row, Inner, Files, FilesAt, Manifest, Array, Puts}
-use Rattle.survey.proofs.Stepping.{stands-low, entered}
+use Rattle.survey.specs.laws.Walked.{Fine, Fits, Entered, slot, Noted, Row, Inner, Kept, RowAt, Files, FilesAt, Manifest, Holds, ManifestPuts, ManifestHolds}
+use Rattle.survey.proofs.Stepping.{stands-low}
+use Rattle.survey.proofs.Walking.{Walking}
 use Rattle.survey.proofs.Objects.{scalar-fine, scalars-but, stands-same, its-members, row-value, row-stands, row-single, row-fine}
 use Rattle.survey.proofs.Arrays.{long, array-value, array-places, array-fine}
 use Rattle.survey.proofs.Known.{known-column, known-fine, line-14, line-15, line-16, line-17, line-18, line-19}
-use Rattle.survey.proofs.Items.{leaf-trace, inner-known, inner-fine}
+use Rattle.survey.proofs.Items.{leaf-trace, inner-of, inner-known, inner-fine}
+use Rattle.survey.proofs.Holding.{object-fits, array-fits, puts-this, puts-none, holds-none, holds-kept, found-on}
 use Rattle.survey.proofs.Blocks.{no-entry}
 
 -- ---- a member
 
-kind-19 : valueKind 19 ≡ 9
-unfolding valueKind lineAt pick
-kind-19 = refl
+wants-files : wantedOf 9 ≡ 5
+unfolding wantedOf pick
+wants-files = refl
 
-array-typed : (ts : Trees) → tag (arr ts) ≡ wantedOf 9
-unfolding tag wantedOf pick
-array-typed ts = refl
-
-module _ (s : Text) (i : ℕ) {r : Scan} (er : r ≡ scan (name s i)) {j : ℕ} (re : r ≡ Done j) {line : ℕ} (lo : Gives (λ k n. LineOf 11 k line) (string s i)) {v : ℕ} (ev : v ≡ skip s j) {old new : List ℕ} {e : ℕ} where
-  pub files-entered : line ≡ 19 → Files s v e old new → Entered 11 14 s i line v e × Puts (FilesAt s) 19 line v old new
-  files-entered h m = (
-    entered 11 14 s i er re lo ev {k = 9} (sym kind-19 ∙ ap valueKind (sym h)) (record { tree = arr (trees (map (λ (x : Spot). x .1) (m .listed .items))); reads = array-value 13 s v (m .listed .opens) (m .listed .reads); typed = λ _. array-typed _ }),
-    record { other = λ n. absurd (n h); this = λ _. (e, m) },
+module _ (s : Text) {line v e : ℕ} where
+  pub trace-put : {ix trace trace′ : List ℕ} → line ≡ 18 → Kept 10 13 s v e trace′ → Fits (valueKind line) 14 s v e × ManifestPuts s line v ix ix trace trace′
+  trace-put h m = (
+    object-fits line-18 h (leaf-trace .wants) (m .row) (m .ends),
+    record { files = puts-none (FilesAt s) (λ z. omega arith) refl; trace = puts-this (RowAt 10 13 s) h (m .row) },
   )
 
-  pub unlisted-entered : (line ≡ 19 → ⊥) → {k : ℕ} → k ≡ valueKind line → Fits k 14 s v e → new ≡ old → Entered 11 14 s i line v e × Puts (FilesAt s) 19 line v old new
-  unlisted-entered n ek f q = (entered 11 14 s i er re lo ev ek f, record { other = λ _. q; this = λ h. absurd (n h) })
+  pub files-put : {ix ix′ trace : List ℕ} → line ≡ 19 → Files s v e ix ix′ → Fits (valueKind line) 14 s v e × ManifestPuts s line v ix ix′ trace trace
+  files-put h m = (
+    array-fits line-19 h wants-files (m .listed),
+    record { files = puts-this (FilesAt s) h (e, m); trace = puts-none (RowAt 10 13 s) (λ z. omega arith) refl },
+  )
+
+  pub rest-put : {ix trace : List ℕ} → (line ≡ 18 → ⊥) → (line ≡ 19 → ⊥) → {k : ℕ} → k ≡ valueKind line → Fits k 14 s v e → Fits (valueKind line) 14 s v e × ManifestPuts s line v ix ix trace trace
+  rest-put a b ek f = (
+    subst (λ (x : ℕ). Fits x 14 s v e) ek f,
+    record { files = puts-none (FilesAt s) b refl; trace = puts-none (RowAt 10 13 s) a refl },
+  )
+
+-- ---- the walk over the manifest object
+
+pub manifest-none : (s : Text) (ix trace : List ℕ) → ManifestHolds s (replicate 5 0) ix ix trace trace
+manifest-none s ix trace = record { files = holds-none (FilesAt s) ix; trace = holds-none (RowAt 10 13 s) trace }
+
+-- one member more
+pub manifest-on : (s : Text) (p : ℕ) {i : ℕ} {found : List ℕ} → Walking 11 14 s p i found → {line v e : ℕ} → Entered 11 14 s i line v e → {new : List ℕ} → Noted 11 line v found new → {ix₀ ix ix′ trace₀ trace trace′ : List ℕ}
+    → ManifestHolds s found ix₀ ix trace₀ trace → ManifestPuts s line v ix ix′ trace trace′ → ManifestHolds s new ix₀ ix′ trace₀ trace′
+manifest-on s p w en d h q =
+    record {
+      files = found-on 14 line-19 s p (FilesAt s) (omega arith) w en d (h .files) (q .files);
+      trace = found-on 14 line-18 s p (RowAt 10 13 s) (omega arith) w en d (h .trace) (q .trace);
+    }
+
+-- the end in front of the row
+pub manifest-kept : (s : Text) (e : ℕ) (row : List ℕ) {ix₀ ix trace₀ trace : List ℕ} → ManifestHolds s row ix₀ ix trace₀ trace → ManifestHolds s (set row 0 e) ix₀ ix trace₀ trace
+manifest-kept s e row h = record { files = holds-kept (FilesAt s) 2 e row (h .files); trace = holds-kept (RowAt 10 13 s) 1 e row (h .trace) }
 
 -- ---- flaws
 
@@ -92,7 +111,13 @@ no-files s {old} size z =
     let q : Put old 5 (0 ∷ []) old = put-rest 1 (λ j. 0 ∷ []) 0 1 (λ j x y. refl) z (put-none old 5 (omega arith)) (omega arith) in
     put-before refl p q
 
-module _ (s : Text) (p : ℕ) (past : p ≡ 0 → ⊥) {own trace old mid : List ℕ} (w : Row 11 14 s p own) (a : Array (FilesAt s) (getD own 3 0) old mid) (it : Inner 10 13 s (getD own 2 0) trace) where
+module _ (s : Text) (p : ℕ) (past : p ≡ 0 → ⊥) {own trace old mid : List ℕ} (w : Row 11 14 s p own) (held : ManifestHolds s own old mid (replicate 5 0) trace) where
+  a : Holds (FilesAt s) (getD own 3 0) old mid
+  a = held .files
+
+  it : Inner 10 13 s (getD own 2 0) trace
+  it = inner-of (held .trace)
+
   manifest-fine : Fine 11 (obj (its-members 11 14 s p w))
   unfolding wantedOf pick
   manifest-fine =
@@ -135,8 +160,8 @@ module _ (s : Text) (p : ℕ) (past : p ≡ 0 → ⊥) {own trace old mid : List
   unfolding versionsAt versionsBy any pick
   is-version-1 n f = ap (versionsBy s) (one-version n) ∙ (λ t. pick (f t || false) 7 0)
 
-  files-put : length old ≡ 2470 → Blank old 5 → Put old 5 (length (itemsOf s (getD own 3 0)) ∷ rows (λ k. block s (getD (itemsOf s (getD own 3 0)) k 0)) 32) mid
-  files-put size b = go (ℕ-discrete (getD own 3 0) 0)
+  listed-put : length old ≡ 2470 → Blank old 5 → Put old 5 (length (itemsOf s (getD own 3 0)) ∷ rows (λ k. block s (getD (itemsOf s (getD own 3 0)) k 0)) 32) mid
+  listed-put size b = go (ℕ-discrete (getD own 3 0) 0)
     where
       go : Dec (getD own 3 0 ≡ 0) → Put old 5 (length (itemsOf s (getD own 3 0)) ∷ rows (λ k. block s (getD (itemsOf s (getD own 3 0)) k 0)) 32) mid
       go (yes z) =
@@ -168,5 +193,5 @@ module _ (s : Text) (p : ℕ) (past : p ≡ 0 → ⊥) {own trace old mid : List
         few = is-few;
         index = λ e.
             let b : Blank old 5 = blank-on 5 (subst (λ (l : List ℕ). Blank l 0) (sym e) (blank-zeros 2470)) in
-            put-all (put-same index-is (put-before refl (files-put size b) q)) (index-long s p ∙ sym size);
+            put-all (put-same index-is (put-before refl (listed-put size b) q)) (index-long s p ∙ sym size);
       }

@@ -47,6 +47,10 @@ stands-low l h s p {n = n} e = record { until = n; reads = value-to l 16 h s p e
 
 -- ---- a value
 
+-- what starts with no bracket and no brace; b is its first byte
+pub scalar-read : (s : Text) (i l : ℕ) {b : ℕ} → b ≡ peek s i → ((b ≡ 91) ⊎ (b ≡ 123) → ⊥) → {r : Scan} → r ≡ scan (scalar s i) → r ≡ scan (value l s i)
+scalar-read s i l eb n e = e ∙ sym (ap scan (one-scalar s i l (λ w. n (inl (eb ∙ w))) (λ w. n (inr (eb ∙ w)))))
+
 module _ (s : Text) (p k l : ℕ) {r : Scan} (er : r ≡ scan (value l s p)) {e : ℕ} (re : r ≡ Done e) where
   told : (t : Tree) × (value l s p ≡ done t e)
   told = scan-done (value l s p) (sym er ∙ re)

@@ -18,11 +18,10 @@ use Rattle.json.specs.laws.Forward.{name-past, value-forward}
 use Rattle.json.specs.laws.Names.{quote-first}
 use Rattle.places.specs.laws.Standing.{name-string}
 use Rattle.manifest.specs.laws.Judge.{tag}
-use Rattle.table.specs.Table.{lineAt, wantedOf, valueKind, firstLine}
+use Rattle.table.specs.Table.{lineAt, wantedOf, valueKind}
 use Rattle.table.specs.laws.Lines.{there-about}
 use Rattle.survey.specs.laws.Walked.{Spot, spotted, spot, placing, valued, placed, under, Entered, slot, Noted, Complete, Held, free, held, Row}
-use Rattle.survey.specs.laws.Bare.{Bare}
-use Rattle.survey.proofs.Going.{bare-reads, Going, going-start, going-end, going-on, going-further}
+use Rattle.survey.proofs.Going.{Going, going-start, going-end, going-on, going-further}
 
 -- ---- a member, as it was read
 
@@ -87,23 +86,6 @@ module _ (o l : ℕ) (s : Text) (p : ℕ) where
         sized = length-replicate {A = ℕ} 5 0;
         columns = λ j h g. subst (λ (c : ℕ). Held (lineAt j .kind) c []) (sym (zero-row 5 (slot o j))) free;
       }
-
-  -- no member at all
-  pub walk-none : {e : ℕ} → Bare 123 125 s p e → Complete o (replicate 5 0) → Row o l s p (e ∷ replicate 4 0)
-  unfolding under
-  walk-none {e} b c =
-      record {
-        opens = b .opens;
-        members = [];
-        reads = bare-reads (placed l) b;
-        columns = λ j h g. subst (λ (x : ℕ). Held (lineAt j .kind) x []) (sym (nothing j)) free;
-        complete = record { there = λ j h g a z. c .there j h g a (zero-row 5 (slot o j)) };
-      }
-    where
-      nothing : (j : ℕ) → getD (e ∷ replicate 4 0) (slot o j) 0 ≡ 0
-      nothing j =
-          let q : slot o j ≡ suc (j - firstLine o) = omega arith in
-          ap (λ (x : ℕ). getD (e ∷ replicate 4 0) x 0) q ∙ zero-row 4 (j - firstLine o)
 
   module _ (small : o < 12) {i : ℕ} {found : List ℕ} (w : Walking o l s p i found) {line v e : ℕ} (m : Entered o l s i line v e) where
     pub walk-place : line < 20 → lineAt line .place ≡ o

@@ -3,14 +3,16 @@ ghost use mathlib.Core.Path.{_≡_};
 ghost use mathlib.Core.Bool.{true, false};
 ghost use Prim.Native.Nat.{ℕ, _+_, _<_, _≤_};
 ghost use lib.ListN.{length, getD, replicate};
-ghost use Rattle.table.specs.Table.{lineAt};
+ghost use Rattle.text.specs.Reading.{scan};
+ghost use Rattle.json.specs.Document.{value as valueOf};
+ghost use Rattle.table.specs.Table.{lineAt, valueKind};
 ghost use Rattle.outline.specs.Outline.{not-1-at};
 ghost use Rattle.index.specs.Index.{indexOf};
 ghost use Rattle.index.specs.laws.Put.{Put};
 ghost use Rattle.survey.specs.Survey.{earlyOf, objectRefusal, surveyOf, surveyed};
 ghost use Rattle.survey.specs.laws.Bare.{Bare};
 ghost use Rattle.survey.specs.laws.Sole.{Closes};
-ghost use Rattle.survey.specs.laws.Walked.{Fits, Entered, Noted, Complete, Row, Inner, Machines, MachinesAt, Told, Files, FilesAt, Manifest, Array, Puts, Clear};
+ghost use Rattle.survey.specs.laws.Walked.{Fits, Entered, Noted, Complete, Row, Kept, RowAt, Clocks, Machines, EntryPuts, EntryHolds, Told, Files, ManifestPuts, ManifestHolds, Manifest, Holds, Puts, Clear};
 
 // The kinds by number: 0 text, 1 integer, 2 any value, 3 `sync_to`, 4 `clocks`, 5 an item of `machines`, 6 `machine`, 7 `machines`, 8 an entry, 9 `files`,
 // 10 `trace_time`, 11 the manifest object.
@@ -22,22 +24,40 @@ struct Step {
     end: usize,
 }
 
-// The value at a position ends here if it has the JSON type of a kind and at most so many levels; 0 if it has not.
+// The value at a position, with at most so many levels. A string, a literal or a number is read without the walk that objects and arrays need.
+fn read(s: &[u8], at: usize, levels: u8) -> text::Scan
+    ensures { λ r. ⌜ r ≡ scan (valueOf levels (now (s .entry)) at) ⌝ }
+{
+    match text::byte(s, at) {
+        91 | 123 => json::value(s, at, levels),
+        _ => json::scalar(s, at),
+    }
+}
+
+// The value at a position ends here if it has the JSON type that a kind asks for and at most so many levels; 0 if it has not.
 fn typed(s: &[u8], at: usize, kind: u8, levels: u8) -> usize
     requires { ⌜ levels ≤ 15 ⌝ }
     ensures { λ r. ⌜ ((r ≡ 0 → ⊥) → Fits kind levels (now (s .entry)) at r) ⌝ }
 {
-    match json::value(s, at, levels) {
+    match read(s, at, levels) {
         text::Scan::Done(end) => {
-            if kind == 2 {
-                return end;
-            }
             if table::tag_at(s, at) == table::wanted(kind) {
                 end
             } else {
                 0
             }
         }
+        text::Scan::Bad(_) => 0,
+        text::Scan::Deep(_) => 0,
+    }
+}
+
+// The same for a value of any type.
+fn any(s: &[u8], at: usize, levels: u8) -> usize
+    ensures { λ r. ⌜ ((r ≡ 0 → ⊥) → Fits 2 levels (now (s .entry)) at r) ⌝ }
+{
+    match read(s, at, levels) {
+        text::Scan::Done(end) => end,
         text::Scan::Bad(_) => 0,
         text::Scan::Deep(_) => 0,
     }
@@ -54,11 +74,14 @@ fn text_end(s: &[u8], at: usize) -> usize
     }
 }
 
-// The same as `typed`. Most values are texts, for which the string alone is read.
+// The same for each kind. Most values are texts, for which the string alone is read.
 fn passed(s: &[u8], at: usize, kind: u8, levels: u8) -> usize
     requires { ⌜ levels ≤ 15 ⌝ }
     ensures { λ r. ⌜ ((r ≡ 0 → ⊥) → Fits kind levels (now (s .entry)) at r) ⌝ }
 {
+    if kind == 2 {
+        return any(s, at, levels);
+    }
     if kind == 0 {
         return text_end(s, at);
     }
@@ -160,32 +183,106 @@ fn row(s: &[u8], at: usize, object: u8, levels: u8) -> [usize; 5]
     }
 }
 
-// The end of the array or of the object at a position, which opens and closes with these bytes, if nothing is in it; 0 if something is.
-fn bare(s: &[u8], at: usize, opener: u32, closer: u32) -> usize
-    requires { ⌜ (opener < 256) × (closer < 256) ⌝ }
-    ensures { λ r. ⌜ ((r ≡ 0 → ⊥) → Bare opener closer (now (s .entry)) at r) ⌝ }
+// The end of the array at a position, if nothing is in it; 0 if something is.
+fn bare(s: &[u8], at: usize) -> usize
+    ensures { λ r. ⌜ ((r ≡ 0 → ⊥) → Bare (now (s .entry)) at r) ⌝ }
 {
-    if text::byte(s, at) != opener {
+    if text::byte(s, at) != 91 {
         return 0;
     }
     let i = text::blank(s, at + 1);
-    if text::byte(s, i) == closer { i + 1 } else { 0 }
+    if text::byte(s, i) == 93 { i + 1 } else { 0 }
 }
 
-// The row of an object that may be absent, which is told with an end of 1, or without a member.
-fn inside(s: &[u8], at: usize, object: u8, levels: u8) -> [usize; 5]
+// The row of the object of a kind at a position is kept; its end, 0 if something is unclear.
+fn kept(s: &[u8], at: usize, object: u8, levels: u8, into: &mut [usize; 5]) -> usize
     requires { ⌜ (object < 12) × (levels ≤ 15) ⌝ }
-    ensures { λ r. ⌜ ((getD r 0 0 ≡ 0 → ⊥) → Inner object levels (now (s .entry)) at r) ⌝ }
+    ensures { λ r. ⌜ ((r ≡ 0 → ⊥) → Kept object levels (now (s .entry)) at r (now (into .exit))) ⌝ }
 {
-    if at == 0 {
-        return [1, 0, 0, 0, 0];
+    let found = row(s, at, object, levels);
+    *into = found;
+    found[0]
+}
+
+// A member of `clocks`, from its name on. The row of `sync_to` is kept at once.
+fn clocks_member(s: &[u8], at: usize, sync: &mut [usize; 5]) -> Step
+    ensures { λ r. ⌜ ((r .end ≡ 0 → ⊥) → Entered 4 11 (now (s .entry)) at (r .line) (r .at) (r .end) × Puts (RowAt 3 10 (now (s .entry))) 5 (r .line) (r .at) (now (sync .entry)) (now (sync .exit))) ⌝ }
+{
+    match json::name(s, at) {
+        text::Scan::Done(j) => {
+            let line = table::line_of(s, at, 4);
+            let v = text::blank(s, j);
+            let end = if line == 5 {
+                kept(s, v, 3, 10, sync)
+            } else {
+                passed(s, v, table::value_kind(line), 11)
+            };
+            Step {
+                line: line,
+                at: v,
+                end: end,
+            }
+        }
+        text::Scan::Bad(_) => Step {
+            line: 20,
+            at: 0,
+            end: 0,
+        },
+        text::Scan::Deep(_) => Step {
+            line: 20,
+            at: 0,
+            end: 0,
+        },
     }
-    let none: [usize; 5] = [0; 5];
-    let end = bare(s, at, 123, 125);
-    if end != 0 && !lacking(&none, object) {
-        return [end, 0, 0, 0, 0];
+}
+
+// The row of `clocks`, as `row` gives it; the row of its `sync_to` is kept.
+fn clocks_row(s: &[u8], at: usize, sync: &mut [usize; 5]) -> [usize; 5]
+    ensures { λ r. ⌜ ((getD r 0 0 ≡ 0 → ⊥) → Row 4 11 (now (s .entry)) at r × Holds (RowAt 3 10 (now (s .entry))) (getD r 3 0) (now (sync .entry)) (now (sync .exit))) ⌝ }
+{
+    let mut found: [usize; 5] = [0; 5];
+    if text::byte(s, at) != 123 {
+        return found;
     }
-    row(s, at, object, levels)
+    let mut i = text::blank(s, at + 1);
+    loop {
+        let m = clocks_member(s, i, sync);
+        if m.end == 0 || !noted(&mut found, 4, m.line, m.at) {
+            return [0, 0, 0, 0, 0];
+        }
+        let e = text::blank(s, m.end);
+        let b = text::byte(s, e);
+        if b == 125 {
+            if lacking(&found, 4) {
+                return [0, 0, 0, 0, 0];
+            }
+            found[0] = e + 1;
+            return found;
+        }
+        if b != 44 {
+            return [0, 0, 0, 0, 0];
+        }
+        i = text::blank(s, e + 1);
+    }
+}
+
+// The row of `clocks` at a position is kept, and behind it the columns of its `sync_to`, of which it has three; its end, 0 if something is unclear.
+fn clocks_kept(s: &[u8], at: usize, into: &mut [usize; 8]) -> usize
+    ensures { λ r. ⌜ ((r ≡ 0 → ⊥) → Clocks (now (s .entry)) at r (now (into .exit))) ⌝ }
+{
+    let mut sync: [usize; 5] = [0; 5];
+    let own = clocks_row(s, at, &mut sync);
+    *into = [
+        own[0],
+        own[1],
+        own[2],
+        own[3],
+        own[4],
+        sync[1],
+        sync[2],
+        sync[3],
+    ];
+    own[0]
 }
 
 // The items of `machines`: their number and their columns are put into the index. The end is 0 if there are more than 32 or none, or something is unclear.
@@ -225,27 +322,51 @@ fn any_machines(s: &[u8], at: usize, base: usize, ix: &mut [usize; 2470]) -> usi
     requires { ⌜ (at ≡ 0 → ⊥) × (length (now ix) ≡ 2470) × (base + 65 ≤ 2470) ⌝ }
     ensures { λ r. ⌜ ((r ≡ 0 → ⊥) → Machines (now (s .entry)) base at r (now (ix .entry)) (now (ix .exit))) ⌝ }
 {
-    let end = bare(s, at, 91, 93);
+    let end = bare(s, at);
     if end != 0 {
         return end;
     }
     machines(s, at, base, ix)
 }
 
-// A member of an entry, from its name on. The items of `machines` go into the index at once.
-fn entry_member(s: &[u8], at: usize, base: usize, ix: &mut [usize; 2470]) -> Step
+// The value of an entry's member, which a line is about: its end, 0 if it is unclear. Each is read once, so what the index has of an object is kept here.
+fn entry_value(
+    s: &[u8],
+    at: usize,
+    line: usize,
+    base: usize,
+    ix: &mut [usize; 2470],
+    machine: &mut [usize; 5],
+    clocks: &mut [usize; 8],
+) -> usize
+    requires { ⌜ (at ≡ 0 → ⊥) × (length (now ix) ≡ 2470) × (base + 77 ≤ 2470) ⌝ }
+    ensures { λ r. ⌜ ((r ≡ 0 → ⊥) → Fits (valueKind line) 12 (now (s .entry)) at r × EntryPuts (now (s .entry)) base line at (now (ix .entry)) (now (ix .exit)) (now (machine .entry)) (now (machine .exit)) (now (clocks .entry)) (now (clocks .exit))) ⌝ }
+{
+    match line {
+        11 => kept(s, at, 6, 11, machine),
+        12 => any_machines(s, at, base + 12, ix),
+        13 => clocks_kept(s, at, clocks),
+        _ => passed(s, at, table::value_kind(line), 12),
+    }
+}
+
+// A member of an entry, from its name on. The items of `machines` go into the index at once, and `machine` and `clocks` are kept.
+fn entry_member(
+    s: &[u8],
+    at: usize,
+    base: usize,
+    ix: &mut [usize; 2470],
+    machine: &mut [usize; 5],
+    clocks: &mut [usize; 8],
+) -> Step
     requires { ⌜ (length (now ix) ≡ 2470) × (base + 77 ≤ 2470) ⌝ }
-    ensures { λ r. ⌜ ((r .end ≡ 0 → ⊥) → Entered 8 12 (now (s .entry)) at (r .line) (r .at) (r .end) × Puts (MachinesAt (now (s .entry)) (base + 12)) 12 (r .line) (r .at) (now (ix .entry)) (now (ix .exit))) ⌝ }
+    ensures { λ r. ⌜ ((r .end ≡ 0 → ⊥) → Entered 8 12 (now (s .entry)) at (r .line) (r .at) (r .end) × EntryPuts (now (s .entry)) base (r .line) (r .at) (now (ix .entry)) (now (ix .exit)) (now (machine .entry)) (now (machine .exit)) (now (clocks .entry)) (now (clocks .exit))) ⌝ }
 {
     match json::name(s, at) {
         text::Scan::Done(j) => {
             let line = table::line_of(s, at, 8);
             let v = text::blank(s, j);
-            let end = if line == 12 {
-                any_machines(s, v, base + 12, ix)
-            } else {
-                passed(s, v, table::value_kind(line), 12)
-            };
+            let end = entry_value(s, v, line, base, ix, machine, clocks);
             Step {
                 line: line,
                 at: v,
@@ -265,10 +386,17 @@ fn entry_member(s: &[u8], at: usize, base: usize, ix: &mut [usize; 2470]) -> Ste
     }
 }
 
-// The row of an entry, as `row` gives it; the items of its `machines` go into the index.
-fn entry_row(s: &[u8], at: usize, base: usize, ix: &mut [usize; 2470]) -> [usize; 5]
+// The row of an entry, as `row` gives it; the items of its `machines` go into the index, and its `machine` and `clocks` are kept.
+fn entry_row(
+    s: &[u8],
+    at: usize,
+    base: usize,
+    ix: &mut [usize; 2470],
+    machine: &mut [usize; 5],
+    clocks: &mut [usize; 8],
+) -> [usize; 5]
     requires { ⌜ (length (now ix) ≡ 2470) × (base + 77 ≤ 2470) ⌝ }
-    ensures { λ r. ⌜ ((getD r 0 0 ≡ 0 → ⊥) → Row 8 12 (now (s .entry)) at r × Array (MachinesAt (now (s .entry)) (base + 12)) (getD r 3 0) (now (ix .entry)) (now (ix .exit))) ⌝ }
+    ensures { λ r. ⌜ ((getD r 0 0 ≡ 0 → ⊥) → Row 8 12 (now (s .entry)) at r × EntryHolds (now (s .entry)) base r (now (ix .entry)) (now (ix .exit)) (now (machine .entry)) (now (machine .exit)) (now (clocks .entry)) (now (clocks .exit))) ⌝ }
 {
     let mut found: [usize; 5] = [0; 5];
     if text::byte(s, at) != 123 {
@@ -276,7 +404,7 @@ fn entry_row(s: &[u8], at: usize, base: usize, ix: &mut [usize; 2470]) -> [usize
     }
     let mut i = text::blank(s, at + 1);
     loop {
-        let m = entry_member(s, i, base, ix);
+        let m = entry_member(s, i, base, ix, machine, clocks);
         if m.end == 0 || !noted(&mut found, 8, m.line, m.at) {
             return [0, 0, 0, 0, 0];
         }
@@ -308,16 +436,15 @@ fn store(ix: &mut [usize; 2470], base: usize, row: &[usize])
     }
 }
 
-// An entry: its end, and its numbers are put into the index. The end is 0 if something is unclear. Its `machine` and its `clocks` are read once more, which are short.
+// An entry: its end, and its numbers are put into the index. The end is 0 if something is unclear.
 fn entry(s: &[u8], at: usize, base: usize, ix: &mut [usize; 2470]) -> usize
     requires { ⌜ (at ≡ 0 → ⊥) × (length (now ix) ≡ 2470) × (base + 77 ≤ 2470) ⌝ }
     ensures { λ r. ⌜ ((r ≡ 0 → ⊥) → Told (now (s .entry)) base at r (now (ix .entry)) (now (ix .exit))) ⌝ }
 {
-    let own = entry_row(s, at, base, ix);
-    let machine = inside(s, own[2], 6, 11);
-    let clocks = inside(s, own[4], 4, 11);
-    let sync = inside(s, clocks[3], 3, 10);
-    if own[0] == 0 || machine[0] == 0 || clocks[0] == 0 || sync[0] == 0 {
+    let mut machine: [usize; 5] = [0; 5];
+    let mut clocks: [usize; 8] = [0; 8];
+    let own = entry_row(s, at, base, ix, &mut machine, &mut clocks);
+    if own[0] == 0 {
         return 0;
     }
     let row = [
@@ -329,9 +456,9 @@ fn entry(s: &[u8], at: usize, base: usize, ix: &mut [usize; 2470]) -> usize
         clocks[1],
         clocks[2],
         clocks[3],
-        sync[1],
-        sync[2],
-        sync[3],
+        clocks[5],
+        clocks[6],
+        clocks[7],
         clocks[4],
     ];
     store(ix, base, &row);
@@ -373,7 +500,7 @@ fn any_files(s: &[u8], at: usize, ix: &mut [usize; 2470]) -> usize
     requires { ⌜ (at ≡ 0 → ⊥) × (length (now ix) ≡ 2470) ⌝ }
     ensures { λ r. ⌜ ((r ≡ 0 → ⊥) → Files (now (s .entry)) at r (now (ix .entry)) (now (ix .exit))) ⌝ }
 {
-    let end = bare(s, at, 91, 93);
+    let end = bare(s, at);
     if end != 0 {
         return end;
     }
@@ -392,20 +519,34 @@ fn not_one(s: &[u8], at: usize) -> bool
     }
 }
 
-// A member of the manifest object, from its name on. The entries of `files` go into the index at once.
-fn manifest_member(s: &[u8], at: usize, ix: &mut [usize; 2470]) -> Step
+// The value of a member of the manifest object, which a line is about: its end, 0 if it is unclear. As in an entry each is read once.
+fn manifest_value(
+    s: &[u8],
+    at: usize,
+    line: usize,
+    ix: &mut [usize; 2470],
+    trace: &mut [usize; 5],
+) -> usize
+    requires { ⌜ (at ≡ 0 → ⊥) × (length (now ix) ≡ 2470) ⌝ }
+    ensures { λ r. ⌜ ((r ≡ 0 → ⊥) → Fits (valueKind line) 14 (now (s .entry)) at r × ManifestPuts (now (s .entry)) line at (now (ix .entry)) (now (ix .exit)) (now (trace .entry)) (now (trace .exit))) ⌝ }
+{
+    match line {
+        18 => kept(s, at, 10, 13, trace),
+        19 => any_files(s, at, ix),
+        _ => passed(s, at, table::value_kind(line), 14),
+    }
+}
+
+// A member of the manifest object, from its name on. The entries of `files` go into the index at once, and `trace_time` is kept.
+fn manifest_member(s: &[u8], at: usize, ix: &mut [usize; 2470], trace: &mut [usize; 5]) -> Step
     requires { ⌜ length (now ix) ≡ 2470 ⌝ }
-    ensures { λ r. ⌜ ((r .end ≡ 0 → ⊥) → Entered 11 14 (now (s .entry)) at (r .line) (r .at) (r .end) × Puts (FilesAt (now (s .entry))) 19 (r .line) (r .at) (now (ix .entry)) (now (ix .exit))) ⌝ }
+    ensures { λ r. ⌜ ((r .end ≡ 0 → ⊥) → Entered 11 14 (now (s .entry)) at (r .line) (r .at) (r .end) × ManifestPuts (now (s .entry)) (r .line) (r .at) (now (ix .entry)) (now (ix .exit)) (now (trace .entry)) (now (trace .exit))) ⌝ }
 {
     match json::name(s, at) {
         text::Scan::Done(j) => {
             let line = table::line_of(s, at, 11);
             let v = text::blank(s, j);
-            let end = if line == 19 {
-                any_files(s, v, ix)
-            } else {
-                passed(s, v, table::value_kind(line), 14)
-            };
+            let end = manifest_value(s, v, line, ix, trace);
             Step {
                 line: line,
                 at: v,
@@ -425,10 +566,10 @@ fn manifest_member(s: &[u8], at: usize, ix: &mut [usize; 2470]) -> Step
     }
 }
 
-// The row of the manifest object, as `row` gives it; the entries of its `files` go into the index.
-fn manifest_row(s: &[u8], at: usize, ix: &mut [usize; 2470]) -> [usize; 5]
+// The row of the manifest object, as `row` gives it; the entries of its `files` go into the index, and its `trace_time` is kept.
+fn manifest_row(s: &[u8], at: usize, ix: &mut [usize; 2470], trace: &mut [usize; 5]) -> [usize; 5]
     requires { ⌜ length (now ix) ≡ 2470 ⌝ }
-    ensures { λ r. ⌜ ((getD r 0 0 ≡ 0 → ⊥) → Row 11 14 (now (s .entry)) at r × Array (FilesAt (now (s .entry))) (getD r 3 0) (now (ix .entry)) (now (ix .exit))) ⌝ }
+    ensures { λ r. ⌜ ((getD r 0 0 ≡ 0 → ⊥) → Row 11 14 (now (s .entry)) at r × ManifestHolds (now (s .entry)) r (now (ix .entry)) (now (ix .exit)) (now (trace .entry)) (now (trace .exit))) ⌝ }
 {
     let mut found: [usize; 5] = [0; 5];
     if text::byte(s, at) != 123 {
@@ -436,7 +577,7 @@ fn manifest_row(s: &[u8], at: usize, ix: &mut [usize; 2470]) -> [usize; 5]
     }
     let mut i = text::blank(s, at + 1);
     loop {
-        let m = manifest_member(s, i, ix);
+        let m = manifest_member(s, i, ix, trace);
         if m.end == 0 || !noted(&mut found, 11, m.line, m.at) {
             return [0, 0, 0, 0, 0];
         }
@@ -461,9 +602,9 @@ fn manifest(s: &[u8], at: usize, ix: &mut [usize; 2470]) -> usize
     requires { ⌜ (at ≡ 0 → ⊥) × (length (now ix) ≡ 2470) ⌝ }
     ensures { λ r. ⌜ ((r ≡ 0 → ⊥) → Manifest (now (s .entry)) at r (now (ix .entry)) (now (ix .exit))) ⌝ }
 {
-    let own = manifest_row(s, at, ix);
-    let trace = inside(s, own[2], 10, 13);
-    if own[0] == 0 || own[1] == 0 || trace[0] == 0 || not_one(s, own[1]) {
+    let mut trace: [usize; 5] = [0; 5];
+    let own = manifest_row(s, at, ix, &mut trace);
+    if own[0] == 0 || own[1] == 0 || not_one(s, own[1]) {
         return 0;
     }
     let row = [own[3], own[2], trace[1], trace[2], trace[3]];

@@ -1,6 +1,7 @@
 -- Laws of the definitions, for the proofs and those who build on them.
 pub mod Some
-pub mod Lines
 pub mod Heads
+pub mod Names
+pub mod Lines
 pub mod Looking
 pub mod Types

@@ -4,3 +4,4 @@ pub mod Told
 pub mod Quick
 pub mod Coded
 pub mod Ends
+pub mod Leads

@@ -9,7 +9,6 @@ ghost use Rattle.text.specs.Reading.{pick, peek, run, word, scan};
 ghost use Rattle.text.specs.Class.{classOf, skip, whitespace, digit as digitOf};
 ghost use Rattle.text.specs.Strings.{hexOf, escapeOf, pairOf, quad as quadOf, low as lowOf, paired as pairedOf, escape as escapeAt, second as secondOf, two as twoOf, three as threeOf, four as fourOf, character as characterOf, codeOf, characters, string as stringOf};
 ghost use Rattle.text.specs.Numbers.{digits as digitsOf, minus as minusOf, sign as signOf, int as intOf, frac as fracOf, exp as expOf, rest as restOf, number as numberOf};
-ghost use Rattle.text.specs.laws.ClassTable.{Classes};
 ghost use Rattle.text.specs.laws.Marks.{marks};
 ghost use Rattle.text.specs.laws.Plain.{own, ownAt, pastOwn, Near};
 
@@ -63,14 +62,6 @@ pub fn class(b: u8) -> u8
     ensures { λ r. ⌜ r ≡ classOf b ⌝ }
 {
     CLASS[index(b)]
-}
-
-// The class of a byte by a table of them. A constant is laid out on the stack for each use, so whoever asks for many classes lends one.
-fn class_in(b: u8, classes: &[u8]) -> u8
-    requires { ⌜ Classes (now classes) ⌝ }
-    ensures { λ r. ⌜ r ≡ classOf b ⌝ }
-{
-    classes[index(b)]
 }
 
 // The byte at a position, and 256 past the end: so that no caller has a case for the end.
@@ -489,24 +480,29 @@ fn escaped(s: &[u8], at: usize) -> Code
     Code::Of(short, at + 2)
 }
 
-// A character of a string by the class of its first byte. `closed` alone calls it, so that the compiler lays it into its loop.
-fn of_class(s: &[u8], at: usize, class: u8) -> Code
-    requires { ⌜ (at < length (now s)) × (class ≡ classOf (peek (now s) at)) ⌝ }
+// A character of a string, most often an escape or one of several bytes: by comparing its first byte, since a table is laid out on the stack for each use.
+// `closed` alone calls it, so that the compiler lays it into its loop.
+fn odd(s: &[u8], at: usize) -> Code
+    requires { ⌜ at < length (now s) ⌝ }
     ensures { λ r. ⌜ r ≡ codeOf (characterOf (now (s .entry)) at) ⌝ }
 {
-    match class {
-        3 => escaped(s, at),
-        19 => two(s, at),
-        20 => three(s, at),
-        21 => four(s, at),
-        _ => {
-            if plain(s[at]) {
-                Code::Of(byte(s, at), at + 1)
-            } else {
-                Code::No(at)
-            }
-        }
+    let b = s[at];
+    if b == 92 {
+        return escaped(s, at);
     }
+    if plain(b) {
+        return Code::Of(byte(s, at), at + 1);
+    }
+    if b < 194 {
+        return Code::No(at);
+    }
+    if b < 224 {
+        return two(s, at);
+    }
+    if b < 240 {
+        return three(s, at);
+    }
+    if b < 245 { four(s, at) } else { Code::No(at) }
 }
 
 // A character of a string: its code point. A plain byte and an escape are told at once, without the table.
@@ -530,18 +526,17 @@ pub fn character(s: &[u8], at: usize) -> Code
     }
 }
 
-// The characters at a position, to the closing quote. The table of the classes is laid out once for all of them.
+// The characters at a position, to the closing quote.
 fn closed(s: &[u8], at: usize) -> Scan
     requires { ⌜ at ≤ length (now s) ⌝ }
     ensures { λ r. ⌜ r ≡ scan (characters (suc (length (now (s .entry)))) (now (s .entry)) at) ⌝ }
 {
-    let classes = CLASS;
     let mut i = at;
     while i < s.len() {
         if s[i] == 34 {
             return Scan::Done(i + 1);
         }
-        match of_class(s, i, class_in(s[i], &classes)) {
+        match odd(s, i) {
             Code::Of(_, j) => i = past_few(s, j),
             Code::No(p) => return Scan::Bad(p),
         }

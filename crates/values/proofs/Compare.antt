@@ -1,21 +1,21 @@
 -- The laws of the loops over a string: its length, and its comparison with bytes and with another string. Assumes nothing.
 use mathlib.Core.Path.{_≡_, refl, sym, ap, _∙_}
-use mathlib.Core.Bool.{Bool, true, false, _&&_, and-assoc, and-false}
+use mathlib.Core.Bool.{Bool, true, false, _&&_}
 use mathlib.Core.List.{[], _∷_, _++_}
 use Prim.Native.Nat.{ℕ, zero, suc, _+_, _-_, _*_, _/_, _%_, _≤_, _<_}
 use native.Mathlib.Omega.{arith}
-use native.Mathlib.Nat.{add-zero}
+use native.Mathlib.Nat.{add-zero, zero-add}
 use native.Mathlib.Numerals.{add-one}
 use native.Mathlib.Decide.{decLt}
 use lib.ListN.{length, drop, getD, drop-of-length-le, length-append}
 use lib.Seq.{drop-cons}
 use lib.Dec.{eqb, ltb}
-use borrow.Author.Tests.{eq-eqb, ne-eqb, eqb-true, eqb-false, lt-ltb, le-ltb, ltb-true, ltb-false}
+use borrow.Author.Tests.{eq-eqb, ne-eqb, eqb-true, eqb-false, lt-ltb, le-ltb, ltb-true, ltb-false, le-leb, lt-leb}
 use Rattle.text.specs.Reading.{Text, Out, done, bad, deep, next, pick, peek}
 use Rattle.text.specs.Strings.{character, utf8, before, string}
 use Rattle.json.specs.Tree.{same}
-use Rattle.values.specs.Strings.{lengthIn, lengthAt, isText, sameAs, bothText, sameTexts}
-use Rattle.values.specs.laws.Compared.{startsFrom, rest}
+use Rattle.values.specs.Strings.{lengthIn, lengthAt, isText, sameAs, rest, begins, endsIn, bothText, sameTexts}
+use Rattle.values.specs.laws.Compared.{startsFrom, reach, endsFrom}
 use Rattle.values.specs.laws.Ordinary.{Ordinary, reads-itself, width-one, starts-itself, plain-itself}
 use Rattle.values.specs.laws.Alike.{Twice, Alike, alike-less, alike-last}
 use Rattle.text.specs.laws.Plain.{own, pastOwn, own-step, own-stop, own-past, own-ge}
@@ -23,7 +23,8 @@ use Rattle.text.specs.laws.Readers.{pick-true, pick-false}
 use Rattle.text.specs.laws.Strings.{string-none}
 use Rattle.values.specs.laws.Outs.{Stops, stops-is, stops-bad, stops-deep}
 use Rattle.values.specs.laws.Standing.{text-stops, left-stops, right-stops, same-equal}
-use Rattle.values.proofs.Rest.{rest-close, rest-char, rest-stops, string-is}
+use Rattle.values.specs.laws.Rest.{rest-close, rest-char, rest-stops, string-is}
+use Rattle.values.specs.laws.Ends.{ends-whole}
 
 -- ---- the length
 
@@ -97,107 +98,122 @@ plain-ge s i e = omega (arith, own-ge s i)
 pub length-plain : (s : Text) (n i : ℕ) {k r : ℕ} → lengthFrom n (rest s i) ≡ r → k ≡ pastOwn s i → lengthFrom (n + (k - i)) (rest s k) ≡ r
 length-plain s n i inv e = rw e (length-turns (length s) s n i (omega arith) inv)
 
--- ---- the comparison with bytes
+-- ---- the comparison with bytes: where they end in a text t
 
--- the list is what t has from k on
-pub agrees : Text → Text → ℕ → Bool
-agrees [] t k = eqb k (length t)
-agrees (x ∷ xs) t k = eqb x (peek t k) && agrees xs t (k + 1)
-
-past : (xs t : Text) (k : ℕ) → length t < k → agrees xs t k ≡ false
-unfolding agrees
-past [] t k h = ne-eqb k (length t) (λ (e : k ≡ length t). omega arith)
-past (x ∷ xs) t k h = rw (past xs t (k + 1) (omega arith)) (and-false (eqb x (peek t k)))
-
-joined : (ok : Bool) (xs ys t : Text) (k : ℕ) → (ok && agrees (xs ++ ys) t k) ≡ (startsFrom ok xs t k && agrees ys t (k + length xs))
-unfolding agrees startsFrom
-joined ok [] ys t k = rw add-zero
-joined ok (x ∷ xs) ys t k = sym (and-assoc ok _ _) ∙ joined (ok && eqb x (peek t k)) xs ys t (k + 1) ∙ ap (λ (n : ℕ). startsFrom (ok && eqb x (peek t k)) xs t (k + 1) && agrees ys t n) (omega arith)
-
-pick-and : (a b : Bool) → pick a b false ≡ (a && b)
+pick-same : {A : Type 0} (b : Bool) (x : A) → pick b x x ≡ x
 unfolding pick
-pick-and true b = refl
-pick-and false b = refl
+pick-same true x = refl
+pick-same false x = refl
 
-agrees-same : (xs t : Text) (k : ℕ) → k ≤ length t → agrees xs t k ≡ same xs (drop k t)
-unfolding agrees same peek
-agrees-same [] t k h = go (decLt k (length t))
+pick-two : {A : Type 0} (a b : Bool) (x y : A) → pick a (pick b x y) y ≡ pick (a && b) x y
+unfolding pick
+pick-two true b x y = refl
+pick-two false b x y = refl
+
+-- past the end nothing stands
+past : (xs t : Text) (k : ℕ) → length t < k → reach xs t k ≡ length t + 1
+unfolding reach
+past [] t k h = pick-false _ _ (lt-leb k (length t) h)
+past (x ∷ xs) t k h = ap (λ (n : ℕ). pick (eqb x (peek t k)) n (length t + 1)) (past xs t (k + 1) (omega arith)) ∙ pick-same _ _
+
+joined : (ok : Bool) (xs ys t : Text) (k : ℕ) → pick ok (reach (xs ++ ys) t k) (length t + 1) ≡ pick (startsFrom ok xs t k) (reach ys t (k + length xs)) (length t + 1)
+unfolding reach startsFrom
+joined ok [] ys t k = rw add-zero
+joined ok (x ∷ xs) ys t k = pick-two ok _ _ _ ∙ joined (ok && eqb x (peek t k)) xs ys t (k + 1) ∙ ap (λ (n : ℕ). pick (startsFrom (ok && eqb x (peek t k)) xs t (k + 1)) (reach ys t n) (length t + 1)) (omega arith)
+
+-- they stand there from k on if what is left of t begins with them
+reach-begins : (u t : Text) (k : ℕ) → k ≤ length t → reach u t k ≡ pick (begins u (drop k t)) (k + length u) (length t + 1)
+unfolding reach begins peek pick
+reach-begins [] t k h = rw (le-leb k (length t) h, add-zero)
+reach-begins (x ∷ u) t k h = go (decLt k (length t)) (reach-begins u t (k + 1))
   where
-    go : Dec (k < length t) → eqb k (length t) ≡ same [] (drop k t)
-    go (yes l) = rw (drop-cons t k 256 l) (ne-eqb k (length t) (λ (e : k ≡ length t). omega arith))
-    go (no n) = let z : length t ≤ k = omega arith in rw (drop-of-length-le t z) (eq-eqb k (length t) (omega arith))
-agrees-same (x ∷ xs) t k h = go (decLt k (length t)) (agrees-same xs t (k + 1))
+    further : (b : Bool) (v : Text) {n : ℕ} → n ≡ pick (begins u v) (k + 1 + length u) (length t + 1) → pick b n (length t + 1) ≡ pick (pick b (begins u v) false) (k + suc (length u)) (length t + 1)
+    further true v e = e ∙ ap (λ (n : ℕ). pick (begins u v) n (length t + 1)) (omega arith)
+    further false v e = refl
+
+    go : Dec (k < length t) → (k + 1 ≤ length t → reach u t (k + 1) ≡ pick (begins u (drop (k + 1) t)) (k + 1 + length u) (length t + 1)) → pick (eqb x (peek t k)) (reach u t (k + 1)) (length t + 1) ≡ pick (begins (x ∷ u) (drop k t)) (k + suc (length u)) (length t + 1)
+    go (yes l) f = rw (drop-cons t k 256 l, ← add-one k) (further (eqb x (getD t k 256)) (drop (k + 1) t) (f (omega arith)))
+    go (no n) f = let z : length t ≤ k = omega arith in rw (drop-of-length-le t z, past u t (k + 1) (omega arith)) (pick-same (eqb x (peek t k)) (length t + 1))
+
+ends-stops : (o : Out Text) (t : Text) (k : ℕ) → Stops o → endsFrom o t k ≡ length t + 1
+unfolding endsFrom
+ends-stops (done u j) t k h = absurd (h .never u j refl)
+ends-stops (bad p) t k h = refl
+ends-stops (deep p) t k h = refl
+
+ends-past : (o : Out Text) (t : Text) (k : ℕ) → length t < k → endsFrom o t k ≡ length t + 1
+unfolding endsFrom
+ends-past (done u j) t k h = past u t k h
+ends-past (bad p) t k h = refl
+ends-past (deep p) t k h = refl
+
+ends-next : (o : Out Text) (t : Text) (k v : ℕ) → endsFrom (next o (before v)) t k ≡ pick (startsFrom true (utf8 v) t k) (endsFrom o t (k + length (utf8 v))) (length t + 1)
+unfolding endsFrom next before pick
+ends-next (done u j) t k v = joined true (utf8 v) u t k
+ends-next (bad p) t k v = sym (pick-same (startsFrom true (utf8 v) t k) _)
+ends-next (deep p) t k v = sym (pick-same (startsFrom true (utf8 v) t k) _)
+
+pub ends-start : (o : Out Text) (t : Text) → endsFrom o t 0 ≡ endsIn o t
+unfolding endsFrom endsIn
+ends-start (done u j) t = reach-begins u t 0 (omega arith) ∙ ap (λ (n : ℕ). pick (begins u t) n (length t + 1)) (zero-add (length u))
+ends-start (bad p) t = refl
+ends-start (deep p) t = refl
+
+module _ (s t : Text) (k i : ℕ) {r : ℕ} (inv : endsFrom (rest s i) t k ≡ r) where
+  pub ends-close : k ≤ length t → peek s i ≡ 34 → k ≡ r
+  unfolding endsFrom reach
+  ends-close l h = sym (pick-true _ _ (le-leb k (length t) l)) ∙ sym (ap (λ (o : Out Text). endsFrom o t k) (rest-close s i h)) ∙ inv
+
+  pub ends-stop : (peek s i ≡ 34 → ⊥) → Stops (character s i) → length t + 1 ≡ r
+  ends-stop h g = sym (ends-stops _ t k (rest-stops s i h g)) ∙ inv
+
+  module _ (h : peek s i ≡ 34 → ⊥) {v j : ℕ} (e : character s i ≡ done v j) {b : Bool} (eb : b ≡ startsFrom true (utf8 v) t k) where
+    ends-step : pick b (endsFrom (rest s j) t (k + length (utf8 v))) (length t + 1) ≡ r
+    ends-step = ap (λ (x : Bool). pick x (endsFrom (rest s j) t (k + length (utf8 v))) (length t + 1)) eb ∙ sym (ends-next (rest s j) t k v) ∙ ap (λ (o : Out Text). endsFrom o t k) (sym (rest-char s i h e)) ∙ inv
+
+    pub ends-other : b ≡ false → length t + 1 ≡ r
+    ends-other f = sym (pick-false _ _ f) ∙ ends-step
+
+    pub ends-more : b ≡ true → {w : ℕ} → w ≡ length (utf8 v) → endsFrom (rest s j) t (k + w) ≡ r
+    ends-more f {w} g = ap (λ (n : ℕ). endsFrom (rest s j) t (k + n)) g ∙ sym (pick-true _ _ f) ∙ ends-step
+
+    pub ends-over : b ≡ true → {w : ℕ} → w ≡ length (utf8 v) → length t < k + w → length t + 1 ≡ r
+    ends-over f {w} g l = sym (ends-past (rest s j) t (k + w) l) ∙ ends-more f g
+
+  -- a byte that is a character by itself
+  module _ {b : ℕ} (e : b ≡ peek s i) (n : b ≡ 34 → ⊥) (o : Ordinary b) {x : ℕ} (f : x ≡ peek t k) where
+    pub ends-byte-other : (x ≡ b → ⊥) → length t + 1 ≡ r
+    ends-byte-other h = ends-other (λ q. n (e ∙ q)) (reads-itself s i e o n) (starts-itself t k b o) (ne-eqb b (peek t k) (λ q. h (f ∙ sym q)))
+
+    pub ends-byte-more : x ≡ b → endsFrom (rest s (i + 1)) t (k + 1) ≡ r
+    ends-byte-more h = ends-more (λ q. n (e ∙ q)) (reads-itself s i e o n) (starts-itself t k b o) (eq-eqb b (peek t k) (sym h ∙ f)) (width-one b o)
+
+-- plain bytes that are the same in a row are some such steps
+ends-turns : (s t : Text) (i r : ℕ) → Alike s i t 0 r → endsFrom (rest s (i + r)) t r ≡ endsFrom (rest s i) t 0
+ends-turns s t i zero a = rw (add-zero i) refl
+ends-turns s t i (suc r) a = go (ends-turns s t i r (alike-less a)) (alike-last a)
   where
-    go : Dec (k < length t) → (k + 1 ≤ length t → agrees xs t (k + 1) ≡ same xs (drop (k + 1) t)) → (eqb x (peek t k) && agrees xs t (k + 1)) ≡ same (x ∷ xs) (drop k t)
-    go (yes l) f = rw (drop-cons t k 256 l, pick-and, ← add-one k, f (omega arith))
-    go (no n) f = let z : length t ≤ k = omega arith in rw (drop-of-length-le t z, past xs t (k + 1) (omega arith)) (and-false (eqb x (peek t k)))
+    go : endsFrom (rest s (i + r)) t r ≡ endsFrom (rest s i) t 0 → Twice s (i + r) t (0 + r) → endsFrom (rest s (i + suc r)) t (suc r) ≡ endsFrom (rest s i) t 0
+    go f w =
+        let p = plain-itself s (i + r) (w .left) (w .plain) in
+        let e : i + suc r ≡ i + r + 1 = omega arith in
+        let e′ : suc r ≡ r + 1 = omega arith in
+        let q : peek s (i + r) ≡ peek t r = w .same ∙ ap (peek t) (zero-add r) in
+        rw (e, e′) (ends-byte-more s t r (i + r) f refl (p .unquoted) (p .ordinary) q refl)
 
--- what was read is what t has from k on
-pub matches : Out Text → Text → ℕ → Bool
-matches (done u j) t k = agrees u t k
-matches (bad p) t k = false
-matches (deep p) t k = false
-
-matches-stops : (o : Out Text) (t : Text) (k : ℕ) → Stops o → matches o t k ≡ false
-unfolding matches
-matches-stops (done u j) t k h = absurd (h .never u j refl)
-matches-stops (bad p) t k h = refl
-matches-stops (deep p) t k h = refl
-
-matches-past : (o : Out Text) (t : Text) (k : ℕ) → length t < k → matches o t k ≡ false
-unfolding matches
-matches-past (done u j) t k h = past u t k h
-matches-past (bad p) t k h = refl
-matches-past (deep p) t k h = refl
-
-matches-next : (o : Out Text) (t : Text) (k v : ℕ) → matches (next o (before v)) t k ≡ (startsFrom true (utf8 v) t k && matches o t (k + length (utf8 v)))
-unfolding matches next before
-matches-next (done u j) t k v = joined true (utf8 v) u t k
-matches-next (bad p) t k v = sym (and-false (startsFrom true (utf8 v) t k))
-matches-next (deep p) t k v = sym (and-false (startsFrom true (utf8 v) t k))
-
-matches-is : (o : Out Text) (t : Text) → isText o t ≡ matches o t 0
-unfolding matches isText
-matches-is (done u j) t = sym (agrees-same u t 0 (omega arith))
-matches-is (bad p) t = refl
-matches-is (deep p) t = refl
+-- ---- what was read is t where it ends with t
 
 pub same-none : (s : Text) (p : ℕ) (t : Text) → (peek s p ≡ 34 → ⊥) → false ≡ sameAs s p t
 unfolding sameAs isText
 same-none s p t h = sym (ap (λ (o : Out Text). isText o t) (string-none s p h))
 
-pub same-start : (s : Text) (p : ℕ) (t : Text) → peek s p ≡ 34 → matches (rest s (p + 1)) t 0 ≡ sameAs s p t
+-- n is where the string ends in t, of which the first r bytes were passed
+pub same-ends : (s : Text) (p : ℕ) (t : Text) {r n : ℕ} → peek s p ≡ 34 → Alike s (p + 1) t 0 r → n ≡ endsFrom (rest s (p + 1 + r)) t r → eqb n (length t) ≡ sameAs s p t
 unfolding sameAs
-same-start s p t h = sym (matches-is (rest s (p + 1)) t) ∙ ap (λ (o : Out Text). isText o t) (sym (string-is s p h))
-
-module _ (s t : Text) (k i : ℕ) {r : Bool} (inv : matches (rest s i) t k ≡ r) where
-  pub same-close : peek s i ≡ 34 → eqb k (length t) ≡ r
-  unfolding matches agrees
-  same-close h = sym (ap (λ (o : Out Text). matches o t k) (rest-close s i h)) ∙ inv
-
-  pub same-stop : (peek s i ≡ 34 → ⊥) → Stops (character s i) → false ≡ r
-  same-stop h g = sym (matches-stops _ t k (rest-stops s i h g)) ∙ inv
-
-  module _ (h : peek s i ≡ 34 → ⊥) {v j : ℕ} (e : character s i ≡ done v j) {b : Bool} (eb : b ≡ startsFrom true (utf8 v) t k) where
-    same-step : (b && matches (rest s j) t (k + length (utf8 v))) ≡ r
-    same-step = ap (λ (x : Bool). x && matches (rest s j) t (k + length (utf8 v))) eb ∙ sym (matches-next (rest s j) t k v) ∙ ap (λ (o : Out Text). matches o t k) (sym (rest-char s i h e)) ∙ inv
-
-    pub same-other : b ≡ false → false ≡ r
-    same-other f = ap (λ (x : Bool). x && matches (rest s j) t (k + length (utf8 v))) (sym f) ∙ same-step
-
-    pub same-more : b ≡ true → {w : ℕ} → w ≡ length (utf8 v) → matches (rest s j) t (k + w) ≡ r
-    same-more f {w} g = ap (λ (n : ℕ). matches (rest s j) t (k + n)) g ∙ ap (λ (x : Bool). x && matches (rest s j) t (k + length (utf8 v))) (sym f) ∙ same-step
-
-    pub same-over : b ≡ true → {w : ℕ} → w ≡ length (utf8 v) → length t < k + w → false ≡ r
-    same-over f {w} g l = sym (matches-past (rest s j) t (k + w) l) ∙ same-more f g
-
-  -- a byte that is a character by itself
-  module _ {b : ℕ} (e : b ≡ peek s i) (n : b ≡ 34 → ⊥) (o : Ordinary b) {x : ℕ} (f : x ≡ peek t k) where
-    pub same-byte-other : (x ≡ b → ⊥) → false ≡ r
-    same-byte-other h = same-other (λ q. n (e ∙ q)) (reads-itself s i e o n) (starts-itself t k b o) (ne-eqb b (peek t k) (λ q. h (f ∙ sym q)))
-
-    pub same-byte-more : x ≡ b → matches (rest s (i + 1)) t (k + 1) ≡ r
-    same-byte-more h = same-more (λ q. n (e ∙ q)) (reads-itself s i e o n) (starts-itself t k b o) (eq-eqb b (peek t k) (sym h ∙ f)) (width-one b o)
+same-ends s p t {r} {n} h a e =
+    ap (λ (m : ℕ). eqb m (length t)) (e ∙ ends-turns s t (p + 1) r a ∙ ends-start (rest s (p + 1)) t)
+    ∙ sym (ends-whole (rest s (p + 1)) t)
+    ∙ ap (λ (o : Out Text). isText o t) (sym (string-is s p h))
 
 -- ---- the comparison with another string: equal texts have equal characters
 
@@ -358,11 +374,11 @@ module _ (s : Text) (i k : ℕ) {r : Bool} (inv : bothText (rest s i) (rest s k)
     both-more e = sym (pick-true _ _ (eq-eqb w v (sym e))) ∙ both-step
 
 -- plain bytes that are the same, in a row
-both-turns : (s : Text) (i k r : ℕ) {x : Bool} → bothText (rest s i) (rest s k) ≡ x → Alike s i k r → bothText (rest s (i + r)) (rest s (k + r)) ≡ x
+pub both-turns : (s : Text) (i k r : ℕ) {x : Bool} → bothText (rest s i) (rest s k) ≡ x → Alike s i s k r → bothText (rest s (i + r)) (rest s (k + r)) ≡ x
 both-turns s i k zero inv a = rw (add-zero i, add-zero k) inv
 both-turns s i k (suc r) {x} inv a = go (both-turns s i k r inv (alike-less a)) (alike-last a)
   where
-    go : bothText (rest s (i + r)) (rest s (k + r)) ≡ x → Twice s (i + r) (k + r) → bothText (rest s (i + suc r)) (rest s (k + suc r)) ≡ x
+    go : bothText (rest s (i + r)) (rest s (k + r)) ≡ x → Twice s (i + r) s (k + r) → bothText (rest s (i + suc r)) (rest s (k + suc r)) ≡ x
     go f t =
         let p = plain-itself s (i + r) (t .left) (t .plain) in
         let q = plain-itself s (k + r) (t .right) (t .plain-too) in
@@ -370,7 +386,7 @@ both-turns s i k (suc r) {x} inv a = go (both-turns s i k r inv (alike-less a)) 
         let g : k + r + 1 ≡ k + suc r = omega arith in
         rw (← e, ← g) (both-more s (i + r) (k + r) f (p .unquoted) (q .unquoted) (p .reads) (q .reads) (t .same))
 
-pub both-alike : (s : Text) (i k : ℕ) {r : ℕ} {x : Bool} → bothText (rest s (i + 1)) (rest s (k + 1)) ≡ x → Alike s (i + 1) (k + 1) r → bothText (rest s (i + (r + 1))) (rest s (k + (r + 1))) ≡ x
+pub both-alike : (s : Text) (i k : ℕ) {r : ℕ} {x : Bool} → bothText (rest s (i + 1)) (rest s (k + 1)) ≡ x → Alike s (i + 1) s (k + 1) r → bothText (rest s (i + (r + 1))) (rest s (k + (r + 1))) ≡ x
 both-alike s i k {r} inv a =
     let e : i + 1 + r ≡ i + (r + 1) = omega arith in
     let g : k + 1 + r ≡ k + (r + 1) = omega arith in

@@ -1,5 +1,5 @@
 -- Laws that only the proofs of this crate's functions use.
-pub mod Rest
+pub mod Widths
 pub mod Compare
 pub mod Digits
 pub mod Ending

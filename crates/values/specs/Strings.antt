@@ -1,9 +1,11 @@
--- The text of the string at a position: its length, and whether it is another text. Assumes nothing.
-use mathlib.Core.Bool.{Bool, false}
-use Prim.Native.Nat.{ℕ}
+-- The text of the string at a position: its length, and whether it is another text, or its beginning. Assumes nothing.
+use mathlib.Core.Bool.{Bool, true, false}
+use mathlib.Core.List.{[], _∷_}
+use Prim.Native.Nat.{ℕ, suc, _+_}
 use lib.ListN.{length}
-use Rattle.text.specs.Reading.{Text, Out, done, bad, deep}
-use Rattle.text.specs.Strings.{string}
+use lib.Dec.{eqb}
+use Rattle.text.specs.Reading.{Text, Out, done, bad, deep, pick}
+use Rattle.text.specs.Strings.{characters, string}
 use Rattle.json.specs.Tree.{Tree, null, bool, num, str, arr, obj, same}
 
 -- how many bytes were read; 0 where no string stands
@@ -25,6 +27,22 @@ isText (deep p) t = false
 -- the string at p, unescaped, is the text t
 unfoldable pub sameAs : Text → ℕ → Text → Bool
 sameAs s p t = isText (string s p) t
+
+-- what is left of a string from a position within it on
+unfoldable pub rest : Text → ℕ → Out Text
+rest s i = characters (suc (length s)) s i
+
+-- the second text begins with the first
+unfoldable pub begins : Text → Text → Bool
+begins [] t = true
+begins (a ∷ u) [] = false
+begins (a ∷ u) (b ∷ t) = pick (eqb a b) (begins u t) false
+
+-- how many bytes were read, if t begins with them; one more than t has if it does not, or if nothing was read
+unfoldable pub endsIn : Out Text → Text → ℕ
+endsIn (done u j) t = pick (begins u t) (length u) (length t + 1)
+endsIn (bad p) t = length t + 1
+endsIn (deep p) t = length t + 1
 
 -- two strings, unescaped, are the same text; false where either is none
 unfoldable pub bothText : Out Text → Out Text → Bool

@@ -2,6 +2,8 @@
 pub mod Outs
 pub mod Compared
 pub mod Ordinary
+pub mod Rest
+pub mod Ends
 pub mod Alike
 pub mod Shapes
 pub mod Standing

@@ -9,10 +9,10 @@ ghost use Rattle.text.specs.Reading.{pick, peek, part};
 ghost use Rattle.text.specs.Class.{digit};
 ghost use Rattle.text.specs.Strings.{utf8};
 ghost use Rattle.values.specs.Stands.{kindBy, kindAt};
-ghost use Rattle.values.specs.Strings.{lengthAt, sameAs, bothText, sameTexts};
+ghost use Rattle.values.specs.Strings.{lengthAt, sameAs, rest, endsIn, bothText, sameTexts};
 ghost use Rattle.values.specs.Integer.{whole, broken as brokenOf, decimal, ranged, integer, integerAt};
 ghost use Rattle.text.specs.laws.Marks.{marks as marksOf};
-ghost use Rattle.values.specs.laws.Compared.{startsFrom, rest};
+ghost use Rattle.values.specs.laws.Compared.{startsFrom, endsFrom};
 ghost use Rattle.values.specs.laws.Ordinary.{Ordinary};
 ghost use Rattle.values.specs.laws.Alike.{twice, twiceAt, Alike};
 
@@ -174,41 +174,74 @@ fn ordinary(b: u32) -> bool
     b != 92
 }
 
-// The string at a position, unescaped, is a text; false where no string stands. No copy is made: each character is compared where it stands.
+// The string at a position, unescaped, is a text; false where no string stands. No copy is made: plain bytes are compared in blocks, and what is left as `begun_rest` does.
 pub fn same_as(s: &[u8], at: usize, t: &[u8]) -> bool
     ensures { λ r. ⌜ r ≡ sameAs (now (s .entry)) at (now (t .entry)) ⌝ }
 {
     if text::byte(s, at) != 34 {
         return false;
     }
-    let mut i = at + 1;
-    let mut k: usize = 0;
+    let n = alike_blocks(s, at + 1, t, 0);
+    begun_rest(s, at + 1 + n, t, n) == t.len()
+}
+
+// Where what is left of a string ends in a text, with which it agreed up to `start`; past the end of the text if it goes on otherwise. For `begun`, with any characters.
+fn begun_rest(s: &[u8], from: usize, t: &[u8], start: usize) -> usize
+    requires { ⌜ start ≤ length (now t) ⌝ }
+    ensures { λ r. ⌜ r ≡ endsFrom (rest (now (s .entry)) from) (now (t .entry)) start ⌝ }
+{
+    let other = t.len() + 1;
+    let mut i = from;
+    let mut end = start;
     loop {
         let b = text::byte(s, i);
         if b == 34 {
-            return k == t.len();
+            return end;
         }
         if ordinary(b) {
-            if text::byte(t, k) != b {
-                return false;
+            if text::byte(t, end) != b {
+                return other;
             }
             i += 1;
-            k += 1;
+            end += 1;
             continue;
         }
         match text::character(s, i) {
             text::Code::Of(v, j) => {
-                if !starts(t, k, v) {
-                    return false;
+                if !starts(t, end, v) {
+                    return other;
                 }
-                k += width(v);
-                if t.len() < k {
-                    return false;
+                end += width(v);
+                if t.len() < end {
+                    return other;
                 }
                 i = j;
             }
-            text::Code::No(_) => return false,
+            text::Code::No(_) => return other,
         }
+    }
+}
+
+// How many bytes are left, unescaped, of a string that goes on at a position, if a text begins with them; one more than the text has if it does not, or the string
+// goes wrong. Bytes that are characters by themselves are compared in a loop without a call, and what has others is left to `begun_rest`.
+pub fn begun(s: &[u8], from: usize, t: &[u8]) -> usize
+    ensures { λ r. ⌜ r ≡ endsIn (rest (now (s .entry)) from) (now (t .entry)) ⌝ }
+{
+    let mut i = from;
+    let mut n = 0;
+    loop {
+        let b = text::byte(s, i);
+        if b == 34 {
+            return n;
+        }
+        if !ordinary(b) {
+            return begun_rest(s, i, t, n);
+        }
+        if text::byte(t, n) != b {
+            return t.len() + 1;
+        }
+        i += 1;
+        n += 1;
     }
 }
 
@@ -232,7 +265,7 @@ fn apart(b: u8, d: u8, w: u16) -> u16
 // The 8 bytes at two positions as binary digits, the first the lowest: 1 where they differ or are not plain, and a 1 above them; three times that, as the plain bytes are told.
 fn pair_marks(s: &[u8], i: usize, k: usize) -> u16
     requires { ⌜ (i + 8 ≤ length (now s)) × (k + 8 ≤ length (now s)) ⌝ }
-    ensures { λ r. ⌜ r ≡ 3 * marksOf (twiceAt (now (s .entry)) i k) 0 8 ⌝ }
+    ensures { λ r. ⌜ r ≡ 3 * marksOf (twiceAt (now (s .entry)) i (now (s .entry)) k) 0 8 ⌝ }
 {
     let mut m: u16 = 0;
     let mut w: u16 = 3;
@@ -246,7 +279,7 @@ fn pair_marks(s: &[u8], i: usize, k: usize) -> u16
 // How many plain bytes at two positions are the same, of 8 at most; near the end of the text none are counted.
 fn alike(s: &[u8], i: usize, k: usize) -> usize
     requires { ⌜ (i ≤ length (now s)) × (k ≤ length (now s)) ⌝ }
-    ensures { λ r. ⌜ Alike (now (s .entry)) i k r ⌝ }
+    ensures { λ r. ⌜ Alike (now (s .entry)) i (now (s .entry)) k r ⌝ }
 {
     if s.len() - i < 8 {
         return 0;
@@ -255,6 +288,55 @@ fn alike(s: &[u8], i: usize, k: usize) -> usize
         return 0;
     }
     text::lowest(pair_marks(s, i, k))
+}
+
+// 1 for a plain byte twice, so that they can be counted without a branch.
+fn twice_one(b: u8, d: u8) -> usize
+    ensures { λ r. ⌜ (r ≤ 1) × (r ≡ 1 → twice b d ≡ true) ⌝ }
+{
+    if b != d {
+        return 0;
+    }
+    if text::plain(b) { 1 } else { 0 }
+}
+
+// The 16 bytes at two positions, of two texts or of one, are plain and the same. All are counted, with no way out between, since that becomes a few instructions for the
+// 16 together.
+fn twice_block(s: &[u8], i: usize, t: &[u8], k: usize) -> bool
+    requires { ⌜ (i + 16 ≤ length (now s)) × (k + 16 ≤ length (now t)) ⌝ }
+    ensures { λ r. ⌜ (r ≡ true → Alike (now (s .entry)) i (now (t .entry)) k 16) ⌝ }
+{
+    let mut n: usize = 0;
+    for j in 0..16 {
+        n += twice_one(s[i + j], t[k + j]);
+    }
+    n == 16
+}
+
+// How many bytes are left in both texts from two positions on.
+fn room(s: &[u8], i: usize, t: &[u8], k: usize) -> usize
+    requires { ⌜ (i ≤ length (now s)) × (k ≤ length (now t)) ⌝ }
+    ensures { λ r. ⌜ (i + r ≤ length (now (s .entry))) × (k + r ≤ length (now (t .entry))) ⌝ }
+{
+    let left = s.len() - i;
+    let right = t.len() - k;
+    if left < right { left } else { right }
+}
+
+// How many plain bytes at two positions are the same, by whole blocks.
+fn alike_blocks(s: &[u8], i: usize, t: &[u8], k: usize) -> usize
+    requires { ⌜ (i ≤ length (now s)) × (k ≤ length (now t)) ⌝ }
+    ensures { λ r. ⌜ Alike (now (s .entry)) i (now (t .entry)) k r ⌝ }
+{
+    let last = room(s, i, t, k);
+    let mut n: usize = 0;
+    while 16 <= last - n {
+        if !twice_block(s, i + n, t, k + n) {
+            return n;
+        }
+        n += 16;
+    }
+    n
 }
 
 // What is left of two strings from two positions on is one text; false where either goes wrong. Equal texts have equal characters; plain ones are compared in a row.
@@ -297,6 +379,45 @@ fn same_rest(s: &[u8], p: usize, q: usize) -> bool
     }
 }
 
+// A byte that is a character by itself.
+fn itself(b: u32) -> bool
+    ensures { λ r. ⌜ (r ≡ true → Ordinary b × (b ≡ 34 → ⊥)) ⌝ }
+{
+    if ordinary(b) { b != 34 } else { false }
+}
+
+// Two bytes that are characters by themselves.
+fn both_itself(b: u32, d: u32) -> bool
+    ensures { λ r. ⌜ (r ≡ true → (Ordinary b × (b ≡ 34 → ⊥)) × (Ordinary d × (d ≡ 34 → ⊥))) ⌝ }
+{
+    if itself(b) { itself(d) } else { false }
+}
+
+// The same as `same_rest`. Most texts that differ do so among their first bytes: these are compared one by one, with no call between, and then blocks of them.
+fn same_first(s: &[u8], p: usize, q: usize) -> bool
+    requires { ⌜ (p ≤ length (now s)) × (q ≤ length (now s)) ⌝ }
+    ensures { λ r. ⌜ r ≡ bothText (rest (now (s .entry)) p) (rest (now (s .entry)) q) ⌝ }
+{
+    let mut i = p;
+    let mut k = q;
+    let mut left: u8 = 8;
+    while 0 < left {
+        let b = text::byte(s, i);
+        let d = text::byte(s, k);
+        if !both_itself(b, d) {
+            return same_rest(s, i, k);
+        }
+        if b != d {
+            return false;
+        }
+        i += 1;
+        k += 1;
+        left -= 1;
+    }
+    let n = alike_blocks(s, i, s, k);
+    same_rest(s, i + n, k + n)
+}
+
 // The strings at two positions, unescaped, are one text; false where either is none.
 pub fn same_texts(s: &[u8], p: usize, q: usize) -> bool
     ensures { λ r. ⌜ r ≡ sameTexts (now (s .entry)) p q ⌝ }
@@ -307,7 +428,7 @@ pub fn same_texts(s: &[u8], p: usize, q: usize) -> bool
     if text::byte(s, q) != 34 {
         return false;
     }
-    same_rest(s, p + 1, q + 1)
+    same_first(s, p + 1, q + 1)
 }
 
 // A point or an e: what stands in a number with a fraction or an exponent.

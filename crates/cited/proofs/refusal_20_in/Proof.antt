@@ -24,7 +24,7 @@ returns-3 : tie.Need-returns-3
 returns-3 c = no-sync-20 (c .before .before .before .before .before .before .before .args .s .now) (c .before .before .before .before .before .before .before .args .ix .now) (c .before .before .before .before .before .before .before .args .i) (c .before .before .before .before .before .col .ensures) (c .before .before .before .before .if1 .left) (c .before .before .before .is-ownless .ensures) (c .before .before .if2 .left) (c .before .col2 .ensures) (c .if3 .taken)
 
 is-unnamed-requires : tie.Need-is-unnamed-requires
-is-unnamed-requires c κs = search needs
+is-unnamed-requires c κs = c .before .before .before .before .before .before .before .pre
 
 returns-4 : tie.Need-returns-4
 returns-4 c = sync-20-said (c .before .before .before .before .before .before .before .before .args .s .now) (c .before .before .before .before .before .before .before .before .args .ix .now) (c .before .before .before .before .before .before .before .before .args .i) (c .before .before .before .before .before .before .col .ensures) (c .before .before .before .before .before .if1 .left) (c .before .before .before .before .is-ownless .ensures) (c .before .before .before .if2 .left) (c .before .before .col2 .ensures) (c .before .if3 .left) (c .is-unnamed .ensures)

@@ -1,19 +1,21 @@
--- The entry that the `file` at a position names. Assumes nothing.
+-- The entry that the `file` at a position names, or that of an entry's `sync_to`, by the table of these. Assumes nothing.
 use mathlib.Core.Path.{_≡_, refl, sym, ap, _∙_}
 use mathlib.Core.Bool.{Bool, true, false, not}
 use mathlib.Core.List.{List}
 use Prim.Native.Nat.{ℕ, _≤_, _<_}
 use native.Mathlib.Omega.{arith}
 use lib.Dec.{ltb}
+use lib.ListN.{getD}
 use borrow.Author.Tests.{eq-eqb, ne-eqb, lt-ltb, le-ltb}
 use Rattle.text.specs.Reading.{Text, pick}
 use Rattle.text.specs.laws.Readers.{pick-true, pick-false}
 use Rattle.manifest.specs.View.{Cell, absent, one}
 use Rattle.manifest.specs.Rows.{Entry, is-absent, holds}
 use Rattle.manifest.specs.Rules.{named-entry, no-entry}
-use Rattle.index.specs.Index.{textAt, at, textCell, entryAt, manifestOf}
-use Rattle.finds.specs.Finds.{entryOf}
+use Rattle.index.specs.Index.{textAt, colOf, at, textCell, entryAt, manifestOf}
+use Rattle.finds.specs.Finds.{entryOf, citesOf}
 use Rattle.finds.specs.Theorems.{find-is, named-entry-is}
+use Rattle.finds.specs.laws.Cites.{cited-some, cites-at, cites-right}
 use Rattle.cited.specs.laws.Cells.{holds-none, holds-some}
 
 -- entry e with its number, if e is below 32
@@ -54,3 +56,13 @@ module _ (s : Text) (ix : List ℕ) (p : ℕ) where
         go : (b : Bool) → is-absent (pick {A = Cell (ℕ × Entry)} b (one (e, entryAt s ix e)) absent) ≡ not b
         go true = refl
         go false = refl
+
+-- the `file` of the `sync_to` of entry i, by the table
+module _ (s : Text) (ix : List ℕ) (i : ℕ) {cites : List ℕ} (below : i < 32) (ec : cites ≡ citesOf s ix) where
+  pub named-by-table : named-entry (manifestOf s ix) (textCell s (colOf ix i 8)) ≡ foundAt s ix (getD cites i 0)
+  unfolding foundAt
+  named-by-table = cites-right s ix i ec below
+
+  module _ {p : ℕ} (ep : p ≡ colOf ix i 8) where
+    pub cites-by-table : (p ≡ 0 → ⊥) → not (ltb (getD cites i 0) 32) ≡ holds (no-entry (manifestOf s ix)) (textCell s p)
+    cites-by-table there = cites-some s ix p there (cites-at s ix i ec below ∙ cited-some s ix i ep there)

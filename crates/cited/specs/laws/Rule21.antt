@@ -17,6 +17,10 @@ use Rattle.cited.specs.laws.Files.{foundAt, found-some, found-none}
 unfoldable pub strange : Text → List ℕ → ℕ → ℕ → Bool
 strange s ix p q = holds (λ v. holds (not-declared (v .1)) (textCell s q)) (named-entry (manifestOf s ix) (textCell s p))
 
+-- there is an entry e, and it does not declare the machine at q
+unfoldable pub strangeIn : Text → List ℕ → ℕ → ℕ → Bool
+strangeIn s ix e q = holds (λ v. holds (not-declared (v .1)) (textCell s q)) (foundAt s ix e)
+
 module _ (s : Text) (ix : List ℕ) (e q : ℕ) where
   pub no-name-given : q ≡ 0 → false ≡ holds (not-declared (entryAt s ix e)) (textCell s q)
   no-name-given h = sym (holds-none (not-declared (entryAt s ix e)) q (textAt s q) h)
@@ -24,14 +28,17 @@ module _ (s : Text) (ix : List ℕ) (e q : ℕ) where
   pub name-given : (q ≡ 0 → ⊥) → {b : Bool} → b ≡ any (same (textAt s q)) (declared (entryAt s ix e)) → not b ≡ holds (not-declared (entryAt s ix e)) (textCell s q)
   name-given h eb = ap not eb ∙ sym (holds-some (not-declared (entryAt s ix e)) q (textAt s q) h)
 
-  module _ (p : ℕ) (ee : named-entry (manifestOf s ix) (textCell s p) ≡ foundAt s ix e) where
-    pub file-found : e < 32 → {b : Bool} → b ≡ holds (not-declared (entryAt s ix e)) (textCell s q) → b ≡ strange s ix p q
-    unfolding strange holds
-    file-found h eb = eb ∙ sym (ap (holds (λ v. holds (not-declared (v .1)) (textCell s q))) (ee ∙ found-some s ix e h))
+  pub entry-asked : e < 32 → {b : Bool} → b ≡ holds (not-declared (entryAt s ix e)) (textCell s q) → b ≡ strangeIn s ix e q
+  unfolding strangeIn holds
+  entry-asked h eb = eb ∙ sym (ap (holds (λ v. holds (not-declared (v .1)) (textCell s q))) (found-some s ix e h))
 
-    pub file-unknown : 32 ≤ e → false ≡ strange s ix p q
-    unfolding strange holds
-    file-unknown h = sym (ap (holds (λ v. holds (not-declared (v .1)) (textCell s q))) (ee ∙ found-none s ix e h))
+  pub entry-unknown : 32 ≤ e → false ≡ strangeIn s ix e q
+  unfolding strangeIn holds
+  entry-unknown h = sym (ap (holds (λ v. holds (not-declared (v .1)) (textCell s q))) (found-none s ix e h))
+
+  pub strange-by-entry : (p : ℕ) → named-entry (manifestOf s ix) (textCell s p) ≡ foundAt s ix e → {b : Bool} → b ≡ strangeIn s ix e q → b ≡ strange s ix p q
+  unfolding strange strangeIn
+  strange-by-entry p ee eb = eb ∙ sym (ap (holds (λ v. holds (not-declared (v .1)) (textCell s q))) ee)
 
 -- ---- in `trace_time`
 

@@ -6,6 +6,7 @@ use mathlib.Core.List.{List}
 use Prim.Native.Nat.{ℕ, zero, suc, _+_, _-_, _≤_, _<_, min}
 use native.Mathlib.Omega.{arith}
 use native.Mathlib.Numerals.{add-one}
+use native.Mathlib.Decide.{ℕ-discrete}
 use lib.Dec.{eqb, ltb}
 use lib.ListN.{getD}
 use borrow.Author.Tests.{eq-eqb, ne-eqb, lt-ltb, ltb-true}
@@ -23,6 +24,24 @@ use Rattle.finds.specs.laws.Firsts.{first-past, first-found, first-on, f
 -- the first entry with a path, from number i on; 32 if there is none
 unfoldable pub entryFrom : Text → List ℕ → Text → ℕ → ℕ
 entryFrom s ix t i = firstOr 32 (holds (has-path t)) (from (entryCell s ix) (entriesIn ix) i) i
+
+-- a path stands at q or not
+module _ (s t : Text) (q : ℕ) where
+  pub path-none : q ≡ 0 → false ≡ holds (same t) (textCell s q)
+  unfolding at holds
+  path-none h = sym (ap (holds (same t)) (pick-true _ _ (eq-eqb q 0 h)))
+
+  pub path-some : (q ≡ 0 → ⊥) → {b : Bool} → b ≡ same t (textAt s q) → b ≡ holds (same t) (textCell s q)
+  unfolding at holds
+  path-some h e = e ∙ sym (ap (holds (same t)) (pick-false _ _ (ne-eqb q 0 h)))
+
+  -- where another text stands, the path is not t
+  pub path-other : same t (textAt s q) ≡ false → false ≡ holds (same t) (textCell s q)
+  path-other e = go (ℕ-discrete q 0)
+    where
+      go : Dec (q ≡ 0) → false ≡ holds (same t) (textCell s q)
+      go (yes h) = path-none h
+      go (no h) = path-some h (sym e)
 
 -- an index holds at most 32 entries
 pub few-entries : (ix : List ℕ) → entriesIn ix ≤ 32
@@ -46,31 +65,30 @@ module _ (s : Text) (ix : List ℕ) (t : Text) where
 
     -- and p is where the path of entry i stands
     module _ (h : i < n) {p : ℕ} (ep : p ≡ colOf ix i 0) where
-      bare : p ≡ 0 → has-path t (entryAt s ix i) ≡ false
-      unfolding entryAt entryBy at holds
-      bare z = ap (holds (same t)) (pick-true _ _ (eq-eqb (colOf ix i 0) 0 (sym ep ∙ z)))
+      -- r says whether it is t
+      module _ {r : Bool} (er : r ≡ holds (same t) (textCell s p)) where
+        asked : has-path t (entryAt s ix i) ≡ r
+        unfolding entryAt entryBy
+        asked = ap (λ (q : ℕ). holds (same t) (textCell s q)) (sym ep) ∙ sym er
 
-      tested : (p ≡ 0 → ⊥) → has-path t (entryAt s ix i) ≡ same t (textAt s p)
-      unfolding entryAt entryBy at holds
-      tested z =
-          ap (holds (same t)) (pick-false _ _ (ne-eqb (colOf ix i 0) 0 (λ q. z (ep ∙ q))))
-          ∙ ap (λ (q : ℕ). same t (textAt s q)) (sym ep)
+        pub entry-on : r ≡ false → entryFrom s ix t i ≡ entryFrom s ix t (i + 1)
+        unfolding entryFrom holds
+        entry-on e =
+            first-on (entryCell s ix) (entriesIn ix) 32 (holds (has-path t)) i (omega arith) (asked ∙ e)
+            ∙ ap (entryFrom s ix t) (sym (add-one i))
 
-      on : has-path t (entryAt s ix i) ≡ false → entryFrom s ix t i ≡ entryFrom s ix t (i + 1)
-      unfolding entryFrom holds
-      on e =
-          first-on (entryCell s ix) (entriesIn ix) 32 (holds (has-path t)) i (omega arith) e
-          ∙ ap (entryFrom s ix t) (sym (add-one i))
+        pub entry-here : r ≡ true → entryFrom s ix t i ≡ i
+        unfolding entryFrom holds
+        entry-here e = first-found (entryCell s ix) (entriesIn ix) 32 (holds (has-path t)) i (omega arith) (asked ∙ e)
 
       pub entry-bare : p ≡ 0 → entryFrom s ix t i ≡ entryFrom s ix t (i + 1)
-      entry-bare z = on (bare z)
+      entry-bare z = entry-on (path-none s t p z) refl
 
       pub entry-other : (p ≡ 0 → ⊥) → same t (textAt s p) ≡ false → entryFrom s ix t i ≡ entryFrom s ix t (i + 1)
-      entry-other z e = on (tested z ∙ e)
+      entry-other z e = entry-on (path-some s t p z (sym e)) refl
 
       pub entry-found : (p ≡ 0 → ⊥) → same t (textAt s p) ≡ true → entryFrom s ix t i ≡ i
-      unfolding entryFrom holds
-      entry-found z e = first-found (entryCell s ix) (entriesIn ix) 32 (holds (has-path t)) i (omega arith) (tested z ∙ e)
+      entry-found z e = entry-here (path-some s t p z (sym e)) refl
 
 -- ---- the rules' search
 

@@ -4,6 +4,7 @@ use mathlib.Core.Bool.{Bool, true, false, or-false}
 use mathlib.Core.List.{List}
 use Prim.Native.Nat.{ℕ, _≤_, _<_}
 use lib.Dec.{eqb, ltb}
+use lib.ListN.{getD}
 use borrow.Author.Tests.{eq-eqb, ne-eqb, lt-ltb, le-ltb}
 use Rattle.text.specs.Reading.{Text, pick}
 use Rattle.text.specs.laws.Readers.{pick-true, pick-false}
@@ -12,8 +13,9 @@ use Rattle.manifest.specs.Rows.{Entry, Clocks, SyncTo, the, holds, any, syncTo,
 use Rattle.manifest.specs.Rules.{same-clock, source, reference, named-entry, refusal-24-clock-related-to-itself}
 use Rattle.index.specs.Index.{textAt, colOf, at, syncBy, clocksBy, entryBy, entryAt, manifestOf}
 use Rattle.index.specs.laws.Entries.{entryCell}
-use Rattle.finds.specs.Finds.{entryOf}
+use Rattle.finds.specs.Finds.{entryOf, citedBy, citesOf}
 use Rattle.finds.specs.laws.Paths.{foundAt, named-right}
+use Rattle.finds.specs.laws.Cites.{cites-at}
 use Rattle.itself.specs.laws.Clocks.{ownClock, otherClock}
 
 -- refusal 24 applies in entry i
@@ -56,7 +58,7 @@ by-tests s ix i = clocks (eqb (colOf ix i 4) 0)
     clocks true = refl
     clocks false = or-false _ ∙ sync (eqb (colOf ix i 7) 0)
 
--- what the code finds: no `clocks`; no `sync_to`; no `file`; no entry; the entry e
+-- what the code finds: no `clocks`; no `sync_to`; no `file` or no entry; the entry that is cited
 module _ (s : Text) (ix : List ℕ) (i : ℕ) {c : ℕ} (ec : c ≡ colOf ix i 4) where
   pub no-clocks : c ≡ 0 → false ≡ itselfIn s ix i
   no-clocks z = sym (by-tests s ix i ∙ pick-true _ _ (eq-eqb (colOf ix i 4) 0 (sym ec ∙ z)))
@@ -68,22 +70,23 @@ module _ (s : Text) (ix : List ℕ) (i : ℕ) {c : ℕ} (ec : c ≡ colOf ix i 4
     pub no-sync : y ≡ 0 → false ≡ itselfIn s ix i
     no-sync z = sym (past-clocks ∙ pick-true _ _ (eq-eqb (colOf ix i 7) 0 (sym ey ∙ z)))
 
-    module _ (zy : y ≡ 0 → ⊥) {f : ℕ} (ef : f ≡ colOf ix i 8) where
-      past-sync : itselfIn s ix i ≡ pick (eqb f 0) false (related s ix i (entryOf (manifestOf s ix) (textAt s f)))
+    -- the table tells which entry is cited: 32 without a `file`, and without an entry of its path
+    module _ (zy : y ≡ 0 → ⊥) (below : i < 32) {cites : List ℕ} (et : cites ≡ citesOf s ix) where
+      no-file : (b : Bool) (e : ℕ) → pick b false (related s ix i e) ≡ related s ix i (pick b 32 e)
+      unfolding pick
+      no-file true e = refl
+      no-file false e = refl
+
+      past-sync : itselfIn s ix i ≡ related s ix i (getD cites i 0)
+      unfolding citedBy
       past-sync =
           past-clocks
           ∙ pick-false _ _ (ne-eqb (colOf ix i 7) 0 (λ q. zy (ey ∙ q)))
-          ∙ ap (λ (p : ℕ). pick (eqb p 0) false (related s ix i (entryOf (manifestOf s ix) (textAt s p)))) (sym ef)
+          ∙ no-file (eqb (colOf ix i 8) 0) (entryOf (manifestOf s ix) (textAt s (colOf ix i 8)))
+          ∙ ap (related s ix i) (sym (cites-at s ix i et below))
 
-      pub no-file : f ≡ 0 → false ≡ itselfIn s ix i
-      no-file z = sym (past-sync ∙ pick-true _ _ (eq-eqb f 0 z))
+      pub no-entry : 32 ≤ getD cites i 0 → false ≡ itselfIn s ix i
+      no-entry h = sym (past-sync ∙ pick-false _ _ (le-ltb (getD cites i 0) 32 h))
 
-      module _ (zf : f ≡ 0 → ⊥) {e : ℕ} (ee : e ≡ entryOf (manifestOf s ix) (textAt s f)) where
-        past-file : itselfIn s ix i ≡ related s ix i e
-        past-file = past-sync ∙ pick-false _ _ (ne-eqb f 0 zf) ∙ ap (related s ix i) (sym ee)
-
-        pub no-entry : 32 ≤ e → false ≡ itselfIn s ix i
-        no-entry h = sym (past-file ∙ pick-false _ _ (le-ltb e 32 h))
-
-        pub some-entry : e < 32 → {r : Bool} → r ≡ same-clock (ownClock s ix i) (otherClock s ix i e) → r ≡ itselfIn s ix i
-        some-entry h er = er ∙ sym (past-file ∙ pick-true _ _ (lt-ltb e 32 h))
+      pub some-entry : getD cites i 0 < 32 → {r : Bool} → r ≡ same-clock (ownClock s ix i) (otherClock s ix i (getD cites i 0)) → r ≡ itselfIn s ix i
+      some-entry h er = er ∙ sym (past-sync ∙ pick-true _ _ (lt-ltb (getD cites i 0) 32 h))

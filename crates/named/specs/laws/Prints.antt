@@ -4,9 +4,10 @@ use mathlib.Core.Bool.{Bool, true, false}
 use mathlib.Core.List.{[], _∷_, _++_}
 use Prim.Native.Nat.{ℕ, suc, _+_, _*_, _/_, _%_, _≤_, _<_}
 use native.Mathlib.Omega.{arith}
-use native.Mathlib.Decide.{decLt}
+use native.Mathlib.Decide.{decLt, ℕ-discrete}
+use lib.Dec.{eqb}
 use lib.ListN.{length}
-use borrow.Author.Tests.{lt-ltb, le-ltb}
+use borrow.Author.Tests.{eq-eqb, ne-eqb, lt-ltb, le-ltb}
 use Rattle.text.specs.Reading.{Text, Out, done, bad, deep, next, peek}
 use Rattle.text.specs.Strings.{character, utf8, before, onward, characters, string, codeOf}
 use Rattle.text.specs.declared.Code.{Code}
@@ -74,6 +75,15 @@ module _ (s : Text) (p q : ℕ) {print : ℕ} (its : print ≡ printAt s p) wher
   pub same-some : (print ≡ 0 → ⊥) → {b : Bool} → b ≡ sameTexts s q p → b ≡ same (textAt s p) (textAt s q)
   unfolding printAt sameTexts textAt
   same-some z f = f ∙ string-is (string s q) (string s p) (λ h. z (its ∙ print-none (textIn (string s p)) h))
+
+-- the print tells whether the text is empty
+pub print-tells : (s : Text) (p : ℕ) {print : ℕ} → print ≡ printAt s p → eqb print 0 ≡ eqb (length (textAt s p)) 0
+unfolding printAt
+print-tells s p {print} e = go (ℕ-discrete print 0)
+  where
+    go : Dec (print ≡ 0) → eqb print 0 ≡ eqb (length (textAt s p)) 0
+    go (yes z) = eq-eqb print 0 z ∙ sym (eq-eqb (length (textAt s p)) 0 (ap length (print-empty (textAt s p) (sym e ∙ z))))
+    go (no z) = ne-eqb print 0 z ∙ sym (ne-eqb (length (textAt s p)) 0 (λ h. z (e ∙ print-none (textAt s p) h)))
 
 -- ---- the print of a code point
 

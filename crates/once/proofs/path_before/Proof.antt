@@ -6,6 +6,7 @@ use Prim.Native.Nat.{_-_}
 use native.Mathlib.Omega.{arith}
 use borrow.Author.Needs.{needs}
 use Rattle.named.specs.laws.Prints.{printAt}
+use Rattle.named.specs.laws.Tables.{print-of}
 use Rattle.index.specs.laws.Entries.{from, entryCell}
 use Rattle.index.specs.Index.{textAt}
 use Rattle.manifest.specs.Rules.{has-path}
@@ -46,7 +47,7 @@ col-requires-2 : tie.Need-col-requires-2 Inv-loop μ-loop
 col-requires-2 c κs = search needs
 
 same-path-requires : tie.Need-same-path-requires Inv-loop μ-loop
-same-path-requires c κs = ((c .before .before .before .before .before .before .before .before .before .pre .1 .each _ (c .before .before .before .before .before .before .before .before .before .pre .0) ∙ ap (printAt (c .before .before .before .before .before .before .before .before .before .args .s .now)) (sym (c .before .before .before .before .before .before .before .col .ensures))), sym (c .before .if2 .taken) ∙ c .before .before .before .before .before .before .before .before .before .pre .1 .each _ (omega (arith, c .before .before .before .before .before .before .before .before .before .pre .0, c .before .before .before .loop-test .taken)) ∙ ap (printAt (c .before .before .before .before .before .before .before .before .before .args .s .now)) (sym (c .col2 .ensures)))
+same-path-requires c κs = ((print-of (c .before .before .before .before .before .before .before .before .before .args .s .now) (c .before .before .before .before .before .before .before .before .before .args .ix .now) (c .before .before .before .before .before .before .before .before .before .pre .1) _ (omega (arith, entries-few (c .before .before .before .before .before .before .before .before .before .args .s .now) (c .before .before .before .before .before .before .before .before .before .args .ix .now) refl, c .before .before .before .before .before .before .before .before .before .pre .0)) ∙ ap (printAt (c .before .before .before .before .before .before .before .before .before .args .s .now)) (sym (c .before .before .before .before .before .before .before .col .ensures))), sym (c .before .if2 .taken) ∙ print-of (c .before .before .before .before .before .before .before .before .before .args .s .now) (c .before .before .before .before .before .before .before .before .before .args .ix .now) (c .before .before .before .before .before .before .before .before .before .pre .1) _ (omega (arith, entries-few (c .before .before .before .before .before .before .before .before .before .args .s .now) (c .before .before .before .before .before .before .before .before .before .args .ix .now) refl, c .before .before .before .before .before .before .before .before .before .pre .0, c .before .before .before .loop-test .taken)) ∙ ap (printAt (c .before .before .before .before .before .before .before .before .before .args .s .now)) (sym (c .col2 .ensures)))
 
 returns-2 : tie.Need-returns-2 Inv-loop μ-loop
 returns-2 c = before-found (c .before .before .before .before .before .before .before .before .before .before .before .args .s .now) (c .before .before .before .before .before .before .before .before .before .before .before .args .ix .now) (c .before .before .before .before .before .before .before .before .before .before .before .args .i) (c .before .before .before .before .before .before .before .before .before .col .result) (c .before .before .before .before .before .before .loop .inv) (c .before .before .before .before .before .loop-test .taken) (c .before .before .col2 .ensures) (c .before .same-path .ensures) (c .if3 .taken)
@@ -58,7 +59,7 @@ loop-less : tie.Need-loop-less Inv-loop μ-loop
 loop-less c = search needs
 
 loop-again : tie.Need-loop-again Inv-loop μ-loop
-loop-again c = ⊎-elim (λ w. before-on (c .before .before .before .before .before .before .before .before .args .s .now) (c .before .before .before .before .before .before .before .before .args .ix .now) (c .before .before .before .before .before .before .before .before .args .i) (c .before .before .before .before .before .before .col .result) (c .before .before .before .loop .inv) (c .before .before .loop-test .taken) (w .1 .ensures) (w .2 .ensures) (w .3 .left)) (λ w. before-on (c .before .before .before .before .before .before .before .before .args .s .now) (c .before .before .before .before .before .before .before .before .args .ix .now) (c .before .before .before .before .before .before .before .before .args .i) (c .before .before .before .before .before .before .col .result) (c .before .before .before .loop .inv) (c .before .before .loop-test .taken) refl (path-other (c .before .before .before .before .before .before .before .before .args .s .now) (c .before .before .before .before .before .before .col .result) _ (c .before .before .before .before .before .before .before .before .pre .1 .each _ (c .before .before .before .before .before .before .before .before .pre .0) ∙ ap (printAt (c .before .before .before .before .before .before .before .before .args .s .now)) (sym (c .before .before .before .before .before .before .col .ensures))) (c .before .before .before .before .before .before .before .before .pre .1 .each _ (omega (arith, c .before .before .before .before .before .before .before .before .pre .0, c .before .before .loop-test .taken))) (w .left)) refl) (c .if2 .came)
+loop-again c = ⊎-elim (λ w. before-on (c .before .before .before .before .before .before .before .before .args .s .now) (c .before .before .before .before .before .before .before .before .args .ix .now) (c .before .before .before .before .before .before .before .before .args .i) (c .before .before .before .before .before .before .col .result) (c .before .before .before .loop .inv) (c .before .before .loop-test .taken) (w .1 .ensures) (w .2 .ensures) (w .3 .left)) (λ w. before-on (c .before .before .before .before .before .before .before .before .args .s .now) (c .before .before .before .before .before .before .before .before .args .ix .now) (c .before .before .before .before .before .before .before .before .args .i) (c .before .before .before .before .before .before .col .result) (c .before .before .before .loop .inv) (c .before .before .loop-test .taken) refl (path-other (c .before .before .before .before .before .before .before .before .args .s .now) (c .before .before .before .before .before .before .col .result) _ (print-of (c .before .before .before .before .before .before .before .before .args .s .now) (c .before .before .before .before .before .before .before .before .args .ix .now) (c .before .before .before .before .before .before .before .before .pre .1) _ (omega (arith, entries-few (c .before .before .before .before .before .before .before .before .args .s .now) (c .before .before .before .before .before .before .before .before .args .ix .now) refl, c .before .before .before .before .before .before .before .before .pre .0)) ∙ ap (printAt (c .before .before .before .before .before .before .before .before .args .s .now)) (sym (c .before .before .before .before .before .before .col .ensures))) (print-of (c .before .before .before .before .before .before .before .before .args .s .now) (c .before .before .before .before .before .before .before .before .args .ix .now) (c .before .before .before .before .before .before .before .before .pre .1) _ (omega (arith, entries-few (c .before .before .before .before .before .before .before .before .args .s .now) (c .before .before .before .before .before .before .before .before .args .ix .now) refl, c .before .before .before .before .before .before .before .before .pre .0, c .before .before .loop-test .taken))) (w .left)) refl) (c .if2 .came)
 
 returns-3 : tie.Need-returns-3 Inv-loop μ-loop
 returns-3 c = before-past (c .before .before .before .before .before .before .args .s .now) (c .before .before .before .before .before .before .args .ix .now) (c .before .before .before .before .before .before .args .i) (c .before .before .before .before .col .result) (c .before .loop .inv) (c .loop-test .left)

@@ -21,21 +21,21 @@ abbrev μ-loop : tie.MeasureT-loop
 returns : tie.Need-returns Inv-loop μ-loop
 returns c = sym (c .before .before .pre .found (c .if1 .taken))
 
-print-paths-requires : tie.Need-print-paths-requires Inv-loop μ-loop
-print-paths-requires c κs = search needs
+path-prints-requires : tie.Need-path-prints-requires Inv-loop μ-loop
+path-prints-requires c κs = search needs
 
 entries-requires : tie.Need-entries-requires Inv-loop μ-loop
 entries-requires c κs = search needs
 
 loop-holds : tie.Need-loop-holds Inv-loop μ-loop
 unfolding refusal-15-path-or-id-twice
-loop-holds c = applies-within refusal-15-path-or-id-twice (c .before .before .before .before .before .args .s .now) (c .before .before .before .before .before .args .ix .now) refl
+loop-holds c = applies-within refusal-15-path-or-id-twice (c .before .before .before .before .args .s .now) (c .before .before .before .before .args .ix .now) refl
 
 path-before-requires : tie.Need-path-before-requires Inv-loop μ-loop
-path-before-requires c κs = (omega (arith, c .before .before .before .entries .ensures, c .before .loop-test .taken), c .before .before .before .before .print-paths .ensures)
+path-before-requires c κs = (omega (arith, c .before .before .before .entries .ensures, c .before .loop-test .taken), c .before .before .before .before .path-prints .ensures)
 
 returns-2 : tie.Need-returns-2 Inv-loop μ-loop
-returns-2 c = loop-found refusal-15-path-or-id-twice (c .before .before .before .before .before .before .before .before .before .before .args .s .now) (c .before .before .before .before .before .before .before .before .before .before .args .ix .now) (c .before .before .before .before .before .entries .ensures) (c .before .before .before .before .loop .inv) (c .before .before .before .loop-test .taken) (path-decides (c .before .before .before .before .before .before .before .before .before .before .args .s .now) (c .before .before .before .before .before .before .before .before .before .before .args .ix .now) (told-false (c .before .before .before .before .before .before .before .before .before .before .args .s .now) (c .before .before .before .before .before .before .before .before .before .before .args .ix .now) (c .before .before .before .before .before .before .before .before .before .before .pre) (c .before .before .before .before .before .before .before .before .if1 .left)) (omega (arith, c .before .before .before .before .before .entries .ensures, c .before .before .before .loop-test .taken)) (c .before .path-before .ensures)) (c .if2 .taken)
+returns-2 c = loop-found refusal-15-path-or-id-twice (c .before .before .before .before .before .before .before .before .before .args .s .now) (c .before .before .before .before .before .before .before .before .before .args .ix .now) (c .before .before .before .before .before .entries .ensures) (c .before .before .before .before .loop .inv) (c .before .before .before .loop-test .taken) (path-decides (c .before .before .before .before .before .before .before .before .before .args .s .now) (c .before .before .before .before .before .before .before .before .before .args .ix .now) (told-false (c .before .before .before .before .before .before .before .before .before .args .s .now) (c .before .before .before .before .before .before .before .before .before .args .ix .now) (c .before .before .before .before .before .before .before .before .before .pre) (c .before .before .before .before .before .before .before .if1 .left)) (omega (arith, c .before .before .before .before .before .entries .ensures, c .before .before .before .loop-test .taken)) (c .before .path-before .ensures)) (c .if2 .taken)
 
 add-i : tie.Need-add-i Inv-loop μ-loop
 add-i c = search needs
@@ -44,10 +44,10 @@ loop-less : tie.Need-loop-less Inv-loop μ-loop
 loop-less c = search needs
 
 loop-again : tie.Need-loop-again Inv-loop μ-loop
-loop-again c = loop-on refusal-15-path-or-id-twice (c .before .before .before .before .before .before .before .before .before .before .args .s .now) (c .before .before .before .before .before .before .before .before .before .before .args .ix .now) (c .before .before .before .before .before .entries .ensures) (c .before .before .before .before .loop .inv) (c .before .before .before .loop-test .taken) (path-decides (c .before .before .before .before .before .before .before .before .before .before .args .s .now) (c .before .before .before .before .before .before .before .before .before .before .args .ix .now) (told-false (c .before .before .before .before .before .before .before .before .before .before .args .s .now) (c .before .before .before .before .before .before .before .before .before .before .args .ix .now) (c .before .before .before .before .before .before .before .before .before .before .pre) (c .before .before .before .before .before .before .before .before .if1 .left)) (omega (arith, c .before .before .before .before .before .entries .ensures, c .before .before .before .loop-test .taken)) (c .before .path-before .ensures)) (c .if2 .left)
+loop-again c = loop-on refusal-15-path-or-id-twice (c .before .before .before .before .before .before .before .before .before .args .s .now) (c .before .before .before .before .before .before .before .before .before .args .ix .now) (c .before .before .before .before .before .entries .ensures) (c .before .before .before .before .loop .inv) (c .before .before .before .loop-test .taken) (path-decides (c .before .before .before .before .before .before .before .before .before .args .s .now) (c .before .before .before .before .before .before .before .before .before .args .ix .now) (told-false (c .before .before .before .before .before .before .before .before .before .args .s .now) (c .before .before .before .before .before .before .before .before .before .args .ix .now) (c .before .before .before .before .before .before .before .before .before .pre) (c .before .before .before .before .before .before .before .if1 .left)) (omega (arith, c .before .before .before .before .before .entries .ensures, c .before .before .before .loop-test .taken)) (c .before .path-before .ensures)) (c .if2 .left)
 
 returns-3 : tie.Need-returns-3 Inv-loop μ-loop
-returns-3 c = loop-past refusal-15-path-or-id-twice (c .before .before .before .before .before .before .before .args .s .now) (c .before .before .before .before .before .before .before .args .ix .now) (c .before .before .entries .ensures) (c .before .loop .inv) (c .loop-test .left)
+returns-3 c = loop-past refusal-15-path-or-id-twice (c .before .before .before .before .before .before .args .s .now) (c .before .before .before .before .before .before .args .ix .now) (c .before .before .entries .ensures) (c .before .loop .inv) (c .loop-test .left)
 
 pub refusal-15-path-or-id-twice-spec : {M : Type 1} → statement M
 refusal-15-path-or-id-twice-spec =
@@ -56,7 +56,7 @@ refusal-15-path-or-id-twice-spec =
     Inv-loop
     μ-loop
     returns
-    print-paths-requires
+    path-prints-requires
     entries-requires
     loop-holds
     path-before-requires

@@ -4,14 +4,13 @@ use mathlib.Core.Bool.{Bool, true, false}
 use mathlib.Core.List.{List, [], _∷_}
 use Prim.Native.Nat.{ℕ, zero, suc, _≤_, _<_}
 use lib.IntN.{ℤ, pos}
-use lib.ListN.{length, getD, take, drop}
+use lib.ListN.{take, drop}
 use Rattle.text.specs.Reading.{Text}
 use Rattle.manifest.specs.View.{one}
 use Rattle.manifest.specs.Rows.{the, holds, any, flat, path, id, ids, entries}
 use Rattle.manifest.specs.Rules.{Rule, has-path, applies, twice-in, refusal-15-path-or-id-twice}
-use Rattle.index.specs.Index.{colOf, itemsIn, entryAt, manifestOf}
+use Rattle.index.specs.Index.{itemsIn, entryAt, manifestOf}
 use Rattle.index.specs.laws.Entries.{from, itemAt}
-use Rattle.named.specs.laws.Prints.{printAt}
 
 -- rule r applies in entry i
 abbrev pub inEntry : Rule → Text → List ℕ → ℕ → Bool
@@ -43,8 +42,3 @@ pub record Numbered (out : Bool) (l : List ℤ) (r : ℕ) : Type 0 where
 pub record Told (s : Text) (ix : List ℕ) (n : ℕ) (twice : Bool) : Type 0 where
   pub found : twice ≡ true → applies refusal-15-path-or-id-twice (manifestOf s ix) ≡ true
   pub none : twice ≡ false → (j : ℕ) → j < n → twice-in (ids (entryAt s ix j)) ≡ false
-
--- the prints of the paths of the first n entries
-pub record Printed (s : Text) (ix prints : List ℕ) (n : ℕ) : Type 0 where
-  pub long : length prints ≡ 32
-  pub each : (j : ℕ) → j < n → getD prints j 0 ≡ printAt s (colOf ix j 0)

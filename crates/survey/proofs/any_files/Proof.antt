@@ -1,11 +1,11 @@
 -- `survey::any_files` meets its contract: without an entry the numbers to put are zeros, which are there; otherwise `files` tells. Assumes nothing.
-use native.Mathlib.Omega.{arith}
+use borrow.Author.Needs.{needs}
 use Rattle.survey.proofs.Blocks.{files-none}
 use Rattle.survey.proofs.any_files.Statement.{statement}
 use Rattle.survey.proofs.any_files.Tie as tie
 
 bare-requires : tie.Need-bare-requires
-bare-requires c κs = (omega arith, omega arith)
+bare-requires c κs = search needs
 
 returns : tie.Need-returns
 returns c = λ n. files-none _ _ (c .before .before .before .pre .1) (c .before .before .before .pre .0) (c .before .bare .ensures n)

@@ -1,11 +1,11 @@
 -- `survey::any_machines` meets its contract: without an item the numbers to put are zeros, which are there; otherwise `machines` tells. Assumes nothing.
-use native.Mathlib.Omega.{arith}
+use borrow.Author.Needs.{needs}
 use Rattle.survey.proofs.Items.{machines-none}
 use Rattle.survey.proofs.any_machines.Statement.{statement}
 use Rattle.survey.proofs.any_machines.Tie as tie
 
 bare-requires : tie.Need-bare-requires
-bare-requires c κs = (omega arith, omega arith)
+bare-requires c κs = search needs
 
 returns : tie.Need-returns
 returns c = λ n. machines-none _ _ _ (c .before .before .before .pre .1) (c .before .before .before .pre .2) (c .before .before .before .pre .0) (c .before .bare .ensures n)

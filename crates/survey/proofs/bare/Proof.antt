@@ -2,7 +2,7 @@
 use mathlib.Core.Path.{refl}
 use native.Mathlib.Omega.{arith}
 use borrow.Author.Needs.{needs}
-use Rattle.text.specs.laws.Peek.{found-lt}
+use Rattle.text.specs.laws.Peek.{found-in}
 use Rattle.survey.proofs.Going.{bare-told}
 use Rattle.survey.proofs.bare.Statement.{statement}
 use Rattle.survey.proofs.bare.Tie as tie
@@ -14,7 +14,7 @@ returns : tie.Need-returns
 returns c = λ n. absurd (n refl)
 
 add-blank : tie.Need-add-blank
-add-blank c = omega (arith, found-lt _ _ (c .before .byte .ensures) (c .if1 .left) (c .before .before .before .pre .0))
+add-blank c = omega (arith, found-in _ _ (c .before .byte .ensures) (c .if1 .left) tt)
 
 blank-requires : tie.Need-blank-requires
 blank-requires c κs = search needs
@@ -23,7 +23,7 @@ byte-requires-2 : tie.Need-byte-requires-2
 byte-requires-2 c κs = search needs
 
 add-result : tie.Need-add-result
-add-result c = omega (arith, found-lt _ _ (c .before .byte2 .ensures) (c .if2 .taken) (c .before .before .before .before .before .before .pre .1))
+add-result c = omega (arith, found-in _ _ (c .before .byte2 .ensures) (c .if2 .taken) tt)
 
 returns-2 : tie.Need-returns-2
 returns-2 c = λ _. bare-told (c .before .before .before .before .byte .ensures) (c .before .before .before .if1 .left) (c .before .before .blank .ensures) (c .before .byte2 .ensures) (c .if2 .taken)

@@ -1,10 +1,10 @@
--- `survey::entry_member` meets its contract: the value of `machines` is told by its walk, any other by its type.
+-- `survey::entry_member` meets its contract: the name is read, its line is told by it, and the value behind the colon by `entry_value`.
 -- Assumes nothing.
-use Rattle.table.specs.laws.Looking.{line-gives}
 use mathlib.Core.Path.{refl}
-use native.Mathlib.Omega.{arith}
 use borrow.Author.Needs.{needs}
-use Rattle.survey.proofs.Entries.{value-past, machines-entered, other-entered}
+use Rattle.table.specs.laws.Looking.{line-gives}
+use Rattle.survey.proofs.Stepping.{entered}
+use Rattle.survey.proofs.Holding.{value-past}
 use Rattle.survey.proofs.entry_member.Statement.{statement}
 use Rattle.survey.proofs.entry_member.Tie as tie
 
@@ -20,17 +20,8 @@ line-of-requires c κs = tt
 blank-requires : tie.Need-blank-requires
 blank-requires c κs = search needs
 
-add-any-machines : tie.Need-add-any-machines
-add-any-machines c = omega (arith, c .before .before .before .before .before .before .before .before .pre .1)
-
-any-machines-requires : tie.Need-any-machines-requires
-any-machines-requires c κs = (value-past _ _ (c .before .before .before .before .before .before .before .name .ensures) (c .before .before .before .before .before .j .given .1) (c .before .before .blank .ensures), c .before .before .before .before .before .before .before .before .before .pre .0, omega (arith, c .before .before .before .before .before .before .before .before .before .pre .1))
-
-value-kind-requires : tie.Need-value-kind-requires
-value-kind-requires c κs = search needs
-
-passed-requires : tie.Need-passed-requires
-passed-requires c κs = search needs
+entry-value-requires : tie.Need-entry-value-requires
+entry-value-requires c κs = (value-past _ _ (c .before .before .before .before .before .before .before .before .name .ensures) (c .before .before .before .before .before .before .j .given .1) (c .before .before .before .blank .ensures), c .before .before .before .before .before .before .before .before .before .before .pre .0, c .before .before .before .before .before .before .before .before .before .before .pre .1)
 
 enum-told : tie.Need-enum-told
 enum-told c = search needs
@@ -39,16 +30,13 @@ enum-told-2 : tie.Need-enum-told-2
 enum-told-2 c = search needs
 
 returns : tie.Need-returns
-returns c = λ n. machines-entered _ _ (c .before .before .before .before .before .before .before .before .name .ensures) (c .before .before .before .before .before .before .j .given .1) (line-gives (c .before .before .before .before .line-of .ensures)) (c .before .before .before .blank .ensures) _ (c .before .before .if1 .taken) (c .any-machines .ensures n)
+returns c = λ n. (entered _ _ _ _ (c .before .before .before .before .before .before .before .before .before .name .ensures) (c .before .before .before .before .before .before .before .j .given .1) (line-gives (c .before .before .before .before .before .line-of .ensures)) (c .before .before .before .before .blank .ensures) refl (c .entry-value .ensures n .0), c .entry-value .ensures n .1)
 
 returns-2 : tie.Need-returns-2
-returns-2 c = λ n. other-entered _ _ (c .before .before .before .before .before .before .before .before .name .ensures) (c .before .before .before .before .before .before .j .given .1) (line-gives (c .before .before .before .before .line-of .ensures)) (c .before .before .before .blank .ensures) _ (c .before .before .if1 .left) (c .before .value-kind .ensures) (c .passed .ensures n) refl
+returns-2 c = λ n. absurd (n refl)
 
 returns-3 : tie.Need-returns-3
 returns-3 c = λ n. absurd (n refl)
-
-returns-4 : tie.Need-returns-4
-returns-4 c = λ n. absurd (n refl)
 
 pub entry-member-spec : {M : Type 1} → statement M
 entry-member-spec =
@@ -58,13 +46,9 @@ entry-member-spec =
     enum-known-j
     line-of-requires
     blank-requires
-    add-any-machines
-    any-machines-requires
-    value-kind-requires
-    passed-requires
+    entry-value-requires
     enum-told
     enum-told-2
     returns
     returns-2
-    returns-3
-    returns-4)
+    returns-3)

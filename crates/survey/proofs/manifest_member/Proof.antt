@@ -1,10 +1,10 @@
--- `survey::manifest_member` meets its contract: the value of `files` is told by its walk, any other by its type.
+-- `survey::manifest_member` meets its contract: the name is read, its line is told by it, and the value behind the colon by `manifest_value`.
 -- Assumes nothing.
-use Rattle.table.specs.laws.Looking.{line-gives}
 use mathlib.Core.Path.{refl}
 use borrow.Author.Needs.{needs}
-use Rattle.survey.proofs.Manifests.{files-entered, unlisted-entered}
-use Rattle.survey.proofs.Entries.{value-past}
+use Rattle.table.specs.laws.Looking.{line-gives}
+use Rattle.survey.proofs.Stepping.{entered}
+use Rattle.survey.proofs.Holding.{value-past}
 use Rattle.survey.proofs.manifest_member.Statement.{statement}
 use Rattle.survey.proofs.manifest_member.Tie as tie
 
@@ -20,14 +20,8 @@ line-of-requires c κs = tt
 blank-requires : tie.Need-blank-requires
 blank-requires c κs = search needs
 
-any-files-requires : tie.Need-any-files-requires
-any-files-requires c κs = (value-past _ _ (c .before .before .before .before .before .before .before .name .ensures) (c .before .before .before .before .before .j .given .1) (c .before .before .blank .ensures), c .before .before .before .before .before .before .before .before .before .pre)
-
-value-kind-requires : tie.Need-value-kind-requires
-value-kind-requires c κs = search needs
-
-passed-requires : tie.Need-passed-requires
-passed-requires c κs = search needs
+manifest-value-requires : tie.Need-manifest-value-requires
+manifest-value-requires c κs = (value-past _ _ (c .before .before .before .before .before .before .before .name .ensures) (c .before .before .before .before .before .j .given .1) (c .before .before .blank .ensures), c .before .before .before .before .before .before .before .before .before .pre)
 
 enum-told : tie.Need-enum-told
 enum-told c = search needs
@@ -36,16 +30,13 @@ enum-told-2 : tie.Need-enum-told-2
 enum-told-2 c = search needs
 
 returns : tie.Need-returns
-returns c = λ n. files-entered _ _ (c .before .before .before .before .before .before .before .before .name .ensures) (c .before .before .before .before .before .before .j .given .1) (line-gives (c .before .before .before .before .line-of .ensures)) (c .before .before .before .blank .ensures) (c .before .before .if1 .taken) (c .any-files .ensures n)
+returns c = λ n. (entered _ _ _ _ (c .before .before .before .before .before .before .before .before .name .ensures) (c .before .before .before .before .before .before .j .given .1) (line-gives (c .before .before .before .before .line-of .ensures)) (c .before .before .before .blank .ensures) refl (c .manifest-value .ensures n .0), c .manifest-value .ensures n .1)
 
 returns-2 : tie.Need-returns-2
-returns-2 c = λ n. unlisted-entered _ _ (c .before .before .before .before .before .before .before .before .name .ensures) (c .before .before .before .before .before .before .j .given .1) (line-gives (c .before .before .before .before .line-of .ensures)) (c .before .before .before .blank .ensures) (c .before .before .if1 .left) (c .before .value-kind .ensures) (c .passed .ensures n) refl
+returns-2 c = λ n. absurd (n refl)
 
 returns-3 : tie.Need-returns-3
 returns-3 c = λ n. absurd (n refl)
-
-returns-4 : tie.Need-returns-4
-returns-4 c = λ n. absurd (n refl)
 
 pub manifest-member-spec : {M : Type 1} → statement M
 manifest-member-spec =
@@ -55,12 +46,9 @@ manifest-member-spec =
     enum-known-j
     line-of-requires
     blank-requires
-    any-files-requires
-    value-kind-requires
-    passed-requires
+    manifest-value-requires
     enum-told
     enum-told-2
     returns
     returns-2
-    returns-3
-    returns-4)
+    returns-3)

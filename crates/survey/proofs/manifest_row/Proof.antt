@@ -1,25 +1,25 @@
--- `survey::manifest_row` meets its contract: the invariant is that of `row`, and that `files` was put into the index if its column is not free.
--- Assumes nothing.
+-- `survey::manifest_row` meets its contract: the invariant is that of `row`, and that `files` is in the index, and `trace_time` kept, each if its column is not
+-- free. Assumes nothing.
 use mathlib.Core.Path.{refl, sym, _∙_}
 use Prim.Native.Nat.{_+_, _-_}
 use native.Mathlib.Omega.{arith}
-use lib.ListN.{length, getD}
+use lib.ListN.{length}
 use borrow.Author.Tests.{not-false}
 use borrow.Author.Needs.{needs}
 use Rattle.text.specs.laws.Peek.{found-in}
-use Rattle.survey.specs.laws.Walked.{FilesAt, Array}
-use Rattle.survey.proofs.Known.{line-19}
-use Rattle.survey.proofs.Entries.{array-none, array-sized, array-kept, found-on}
+use Rattle.survey.specs.laws.Walked.{ManifestHolds}
+use Rattle.survey.proofs.Holding.{holds-sized}
+use Rattle.survey.proofs.Manifests.{manifest-none, manifest-on, manifest-kept}
 use Rattle.survey.proofs.Walking.{Walking, walk-start, walk-place, walk-sized, walk-end, walk-on, walk-further}
 use Rattle.survey.proofs.Stepping.{column-small}
 use Rattle.survey.proofs.manifest_row.Statement.{statement}
 use Rattle.survey.proofs.manifest_row.Tie as tie
 
 abbrev Inv-loop : tie.InvT-loop
-Inv-loop s at ix₀ found₀ i₀ ix found i = Walking 11 14 s at i found × Array (FilesAt s) (getD found 3 0) ix₀ ix
+Inv-loop s at ix₀ trace₀ found₀ i₀ ix trace found i = Walking 11 14 s at i found × ManifestHolds s found ix₀ ix trace₀ trace
 
 abbrev μ-loop : tie.MeasureT-loop
-μ-loop s at ix₀ found₀ i₀ ix found i = length s - i
+μ-loop s at ix₀ trace₀ found₀ i₀ ix trace found i = length s - i
 
 byte-requires : tie.Need-byte-requires Inv-loop μ-loop
 byte-requires c κs = search needs
@@ -34,13 +34,13 @@ blank-requires : tie.Need-blank-requires Inv-loop μ-loop
 blank-requires c κs = search needs
 
 loop-holds : tie.Need-loop-holds Inv-loop μ-loop
-loop-holds c = (walk-start _ _ _ _ (c .blank .ensures), array-none _ _)
+loop-holds c = (walk-start _ _ _ _ (c .blank .ensures), manifest-none _ _ _)
 
 manifest-member-requires : tie.Need-manifest-member-requires Inv-loop μ-loop
-manifest-member-requires c κs = array-sized _ (λ e. e .1 .sized) (c .before .loop .inv .1) ∙ c .before .before .before .before .before .before .pre
+manifest-member-requires c κs = holds-sized _ (λ e. e .1 .sized) (c .before .before .loop .inv .1 .files) ∙ c .before .before .before .before .before .before .before .pre
 
 noted-requires : tie.Need-noted-requires Inv-loop μ-loop
-noted-requires c κs = (c .before .before .before .before .before .loop .inv .0 .sized, omega arith, walk-place _ _ _ _ (omega arith) (c .before .before .before .before .before .loop .inv .0) (c .before .before .before .manifest-member .ensures (c .before .if2 .left) .0))
+noted-requires c κs = (c .before .before .before .before .before .before .loop .inv .0 .sized, omega arith, walk-place _ _ _ _ (omega arith) (c .before .before .before .before .before .before .loop .inv .0) (c .before .before .before .manifest-member .ensures (c .before .if2 .left) .0))
 
 returns-2 : tie.Need-returns-2 Inv-loop μ-loop
 returns-2 c = λ n. absurd (n refl)
@@ -52,7 +52,7 @@ byte-requires-2 : tie.Need-byte-requires-2 Inv-loop μ-loop
 byte-requires-2 c κs = search needs
 
 lacking-requires : tie.Need-lacking-requires Inv-loop μ-loop
-lacking-requires c κs = (walk-sized _ _ _ _ (omega arith) (c .before .before .before .before .before .before .before .before .before .before .before .loop .inv .0) (c .before .before .before .before .before .before .before .before .before .manifest-member .ensures (c .before .before .before .before .before .before .before .if2 .left) .0) (c .before .before .before .before .before .noted .ensures (not-false _ (c .before .before .before .before .if3 .left))), omega arith)
+lacking-requires c κs = (walk-sized _ _ _ _ (omega arith) (c .before .before .before .before .before .before .before .before .before .before .before .before .loop .inv .0) (c .before .before .before .before .before .before .before .before .before .manifest-member .ensures (c .before .before .before .before .before .before .before .if2 .left) .0) (c .before .before .before .before .before .noted .ensures (not-false _ (c .before .before .before .before .if3 .left))), omega arith)
 
 returns-3 : tie.Need-returns-3 Inv-loop μ-loop
 returns-3 c = λ n. absurd (n refl)
@@ -61,10 +61,10 @@ add-found : tie.Need-add-found Inv-loop μ-loop
 add-found c = omega (arith, found-in _ _ (c .before .before .before .before .byte2 .ensures) (c .before .before .before .if4 .taken) tt)
 
 array-write-found : tie.Need-array-write-found Inv-loop μ-loop
-array-write-found c = omega (arith, walk-sized _ _ _ _ (omega arith) (c .before .before .before .before .before .before .before .before .before .before .before .before .before .loop .inv .0) (c .before .before .before .before .before .before .before .before .before .before .before .manifest-member .ensures (c .before .before .before .before .before .before .before .before .before .if2 .left) .0) (c .before .before .before .before .before .before .before .noted .ensures (not-false _ (c .before .before .before .before .before .before .if3 .left))))
+array-write-found c = omega (arith, walk-sized _ _ _ _ (omega arith) (c .before .before .before .before .before .before .before .before .before .before .before .before .before .before .loop .inv .0) (c .before .before .before .before .before .before .before .before .before .before .before .manifest-member .ensures (c .before .before .before .before .before .before .before .before .before .if2 .left) .0) (c .before .before .before .before .before .before .before .noted .ensures (not-false _ (c .before .before .before .before .before .before .if3 .left))))
 
 returns-4 : tie.Need-returns-4 Inv-loop μ-loop
-returns-4 c = λ _. (walk-end _ _ _ _ (omega arith) (c .before .before .before .before .before .before .before .before .before .before .before .before .before .loop .inv .0) (c .before .before .before .before .before .before .before .before .before .before .before .manifest-member .ensures (c .before .before .before .before .before .before .before .before .before .if2 .left) .0) (c .before .before .before .before .before .before .before .noted .ensures (not-false _ (c .before .before .before .before .before .before .if3 .left))) (λ h. column-small _ (omega arith) refl _ h (walk-place _ _ _ _ (omega arith) (c .before .before .before .before .before .before .before .before .before .before .before .before .before .loop .inv .0) (c .before .before .before .before .before .before .before .before .before .before .before .manifest-member .ensures (c .before .before .before .before .before .before .before .before .before .if2 .left) .0) h)) (c .before .before .before .before .before .blank2 .ensures) (c .before .before .before .before .byte2 .ensures) (sym (c .before .before .before .before .before .before .before .before .before .before .before .before .before .before .before .before .byte .ensures) ∙ c .before .before .before .before .before .before .before .before .before .before .before .before .before .before .before .if1 .left) (c .before .before .before .if4 .taken) (c .before .lacking .ensures (c .if5 .left)), array-kept _ 2 (c .before .before .before .before .before .blank2 .result + 1) (c .before .before .before .before .before .before .before .noted .last .0) (found-on 14 line-19 _ _ _ (omega arith) (c .before .before .before .before .before .before .before .before .before .before .before .before .before .loop .inv .0) (c .before .before .before .before .before .before .before .before .before .before .before .manifest-member .ensures (c .before .before .before .before .before .before .before .before .before .if2 .left) .0) (λ h. column-small _ (omega arith) refl _ h (walk-place _ _ _ _ (omega arith) (c .before .before .before .before .before .before .before .before .before .before .before .before .before .loop .inv .0) (c .before .before .before .before .before .before .before .before .before .before .before .manifest-member .ensures (c .before .before .before .before .before .before .before .before .before .if2 .left) .0) h)) (c .before .before .before .before .before .before .before .noted .ensures (not-false _ (c .before .before .before .before .before .before .if3 .left))) (c .before .before .before .before .before .before .before .before .before .before .before .before .before .loop .inv .1) (c .before .before .before .before .before .before .before .before .before .before .before .manifest-member .ensures (c .before .before .before .before .before .before .before .before .before .if2 .left) .1)))
+returns-4 c = λ _. (walk-end _ _ _ _ (omega arith) (c .before .before .before .before .before .before .before .before .before .before .before .before .before .before .loop .inv .0) (c .before .before .before .before .before .before .before .before .before .before .before .manifest-member .ensures (c .before .before .before .before .before .before .before .before .before .if2 .left) .0) (c .before .before .before .before .before .before .before .noted .ensures (not-false _ (c .before .before .before .before .before .before .if3 .left))) (λ h. column-small _ (omega arith) refl _ h (walk-place _ _ _ _ (omega arith) (c .before .before .before .before .before .before .before .before .before .before .before .before .before .before .loop .inv .0) (c .before .before .before .before .before .before .before .before .before .before .before .manifest-member .ensures (c .before .before .before .before .before .before .before .before .before .if2 .left) .0) h)) (c .before .before .before .before .before .blank2 .ensures) (c .before .before .before .before .byte2 .ensures) (sym (c .before .before .before .before .before .before .before .before .before .before .before .before .before .before .before .before .before .byte .ensures) ∙ c .before .before .before .before .before .before .before .before .before .before .before .before .before .before .before .before .if1 .left) (c .before .before .before .if4 .taken) (c .before .lacking .ensures (c .if5 .left)), manifest-kept _ (c .before .before .before .before .before .blank2 .result + 1) (c .before .before .before .before .before .before .before .noted .last .0) (manifest-on _ _ (c .before .before .before .before .before .before .before .before .before .before .before .before .before .before .loop .inv .0) (c .before .before .before .before .before .before .before .before .before .before .before .manifest-member .ensures (c .before .before .before .before .before .before .before .before .before .if2 .left) .0) (c .before .before .before .before .before .before .before .noted .ensures (not-false _ (c .before .before .before .before .before .before .if3 .left))) (c .before .before .before .before .before .before .before .before .before .before .before .before .before .before .loop .inv .1) (c .before .before .before .before .before .before .before .before .before .before .before .manifest-member .ensures (c .before .before .before .before .before .before .before .before .before .if2 .left) .1)))
 
 returns-5 : tie.Need-returns-5 Inv-loop μ-loop
 returns-5 c = λ n. absurd (n refl)
@@ -76,10 +76,10 @@ blank-requires-3 : tie.Need-blank-requires-3 Inv-loop μ-loop
 blank-requires-3 c κs = search needs
 
 loop-less : tie.Need-loop-less Inv-loop μ-loop
-loop-less c = walk-further _ _ _ _ (omega arith) (c .before .before .before .before .before .before .before .before .before .before .before .before .loop .inv .0) (c .before .before .before .before .before .before .before .before .before .before .manifest-member .ensures (c .before .before .before .before .before .before .before .before .if2 .left) .0) (c .before .before .before .before .before .before .noted .ensures (not-false _ (c .before .before .before .before .before .if3 .left))) (λ h. column-small _ (omega arith) refl _ h (walk-place _ _ _ _ (omega arith) (c .before .before .before .before .before .before .before .before .before .before .before .before .loop .inv .0) (c .before .before .before .before .before .before .before .before .before .before .manifest-member .ensures (c .before .before .before .before .before .before .before .before .if2 .left) .0) h)) (c .before .before .before .before .blank2 .ensures) (c .before .before .before .byte2 .ensures) (c .before .before .if4 .left) (c .before .if6 .left) (c .blank3 .ensures)
+loop-less c = walk-further _ _ _ _ (omega arith) (c .before .before .before .before .before .before .before .before .before .before .before .before .before .loop .inv .0) (c .before .before .before .before .before .before .before .before .before .before .manifest-member .ensures (c .before .before .before .before .before .before .before .before .if2 .left) .0) (c .before .before .before .before .before .before .noted .ensures (not-false _ (c .before .before .before .before .before .if3 .left))) (λ h. column-small _ (omega arith) refl _ h (walk-place _ _ _ _ (omega arith) (c .before .before .before .before .before .before .before .before .before .before .before .before .before .loop .inv .0) (c .before .before .before .before .before .before .before .before .before .before .manifest-member .ensures (c .before .before .before .before .before .before .before .before .if2 .left) .0) h)) (c .before .before .before .before .blank2 .ensures) (c .before .before .before .byte2 .ensures) (c .before .before .if4 .left) (c .before .if6 .left) (c .blank3 .ensures)
 
 loop-again : tie.Need-loop-again Inv-loop μ-loop
-loop-again c = (walk-on _ _ _ _ (omega arith) (c .before .before .before .before .before .before .before .before .before .before .before .before .loop .inv .0) (c .before .before .before .before .before .before .before .before .before .before .manifest-member .ensures (c .before .before .before .before .before .before .before .before .if2 .left) .0) (c .before .before .before .before .before .before .noted .ensures (not-false _ (c .before .before .before .before .before .if3 .left))) (λ h. column-small _ (omega arith) refl _ h (walk-place _ _ _ _ (omega arith) (c .before .before .before .before .before .before .before .before .before .before .before .before .loop .inv .0) (c .before .before .before .before .before .before .before .before .before .before .manifest-member .ensures (c .before .before .before .before .before .before .before .before .if2 .left) .0) h)) (c .before .before .before .before .blank2 .ensures) (c .before .before .before .byte2 .ensures) (c .before .before .if4 .left) (c .before .if6 .left) (c .blank3 .ensures), (found-on 14 line-19 _ _ _ (omega arith) (c .before .before .before .before .before .before .before .before .before .before .before .before .loop .inv .0) (c .before .before .before .before .before .before .before .before .before .before .manifest-member .ensures (c .before .before .before .before .before .before .before .before .if2 .left) .0) (λ h. column-small _ (omega arith) refl _ h (walk-place _ _ _ _ (omega arith) (c .before .before .before .before .before .before .before .before .before .before .before .before .loop .inv .0) (c .before .before .before .before .before .before .before .before .before .before .manifest-member .ensures (c .before .before .before .before .before .before .before .before .if2 .left) .0) h)) (c .before .before .before .before .before .before .noted .ensures (not-false _ (c .before .before .before .before .before .if3 .left))) (c .before .before .before .before .before .before .before .before .before .before .before .before .loop .inv .1) (c .before .before .before .before .before .before .before .before .before .before .manifest-member .ensures (c .before .before .before .before .before .before .before .before .if2 .left) .1)))
+loop-again c = (walk-on _ _ _ _ (omega arith) (c .before .before .before .before .before .before .before .before .before .before .before .before .before .loop .inv .0) (c .before .before .before .before .before .before .before .before .before .before .manifest-member .ensures (c .before .before .before .before .before .before .before .before .if2 .left) .0) (c .before .before .before .before .before .before .noted .ensures (not-false _ (c .before .before .before .before .before .if3 .left))) (λ h. column-small _ (omega arith) refl _ h (walk-place _ _ _ _ (omega arith) (c .before .before .before .before .before .before .before .before .before .before .before .before .before .loop .inv .0) (c .before .before .before .before .before .before .before .before .before .before .manifest-member .ensures (c .before .before .before .before .before .before .before .before .if2 .left) .0) h)) (c .before .before .before .before .blank2 .ensures) (c .before .before .before .byte2 .ensures) (c .before .before .if4 .left) (c .before .if6 .left) (c .blank3 .ensures), (manifest-on _ _ (c .before .before .before .before .before .before .before .before .before .before .before .before .before .loop .inv .0) (c .before .before .before .before .before .before .before .before .before .before .manifest-member .ensures (c .before .before .before .before .before .before .before .before .if2 .left) .0) (c .before .before .before .before .before .before .noted .ensures (not-false _ (c .before .before .before .before .before .if3 .left))) (c .before .before .before .before .before .before .before .before .before .before .before .before .before .loop .inv .1) (c .before .before .before .before .before .before .before .before .before .before .manifest-member .ensures (c .before .before .before .before .before .before .before .before .if2 .left) .1)))
 
 pub manifest-row-spec : {M : Type 1} → statement M
 manifest-row-spec =

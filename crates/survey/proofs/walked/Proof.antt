@@ -9,7 +9,7 @@ use borrow.Author.Tests.{not-false}
 use borrow.Author.Needs.{needs}
 use Rattle.text.specs.laws.Peek.{found-in}
 use Rattle.survey.proofs.Steps.{walked-clear}
-use Rattle.survey.proofs.Entries.{value-past}
+use Rattle.survey.proofs.Holding.{value-past}
 use Rattle.survey.proofs.walked.Statement.{statement}
 use Rattle.survey.proofs.walked.Tie as tie
 

@@ -102,8 +102,33 @@ pub record Row (o l : ℕ) (s : Text) (p : ℕ) (row : List ℕ) : Type 0 where
 
 -- an object of kind o stands at p with its row; or p is 0, there is none, and all columns are 0
 pub data Inner (o l : ℕ) (s : Text) : ℕ → List ℕ → Type 0 where
-  gone : Inner o l s 0 (1 ∷ 0 ∷ 0 ∷ 0 ∷ 0 ∷ [])
+  gone : Inner o l s 0 (replicate 5 0)
   stood : {p : ℕ} {row : List ℕ} → (p ≡ 0 → ⊥) → Row o l s p row → Inner o l s p row
+
+-- the row of an object that stands at p and ends at e is kept
+pub record Kept (o l : ℕ) (s : Text) (p e : ℕ) (new : List ℕ) : Type 0 where
+  pub row : Row o l s p new
+  pub ends : getD new 0 0 ≡ e
+
+-- the same without its end, whatever was kept there before
+abbrev pub RowAt : ℕ → ℕ → Text → ℕ → List ℕ → List ℕ → Type 0
+RowAt o l s p old new = Row o l s p new
+
+-- what is kept of `clocks`: its row, and behind it the columns of its `sync_to`
+abbrev pub clockNumbers : List ℕ → List ℕ → List ℕ
+clockNumbers own sync = getD own 0 0 ∷ getD own 1 0 ∷ getD own 2 0 ∷ getD own 3 0 ∷ getD own 4 0 ∷ getD sync 1 0 ∷ getD sync 2 0 ∷ getD sync 3 0 ∷ []
+
+-- `clocks` stands at p and ends at e, and is kept
+pub record Clocks (s : Text) (p e : ℕ) (new : List ℕ) : Type 0 where
+  pub own : List ℕ
+  pub sync : List ℕ
+  pub row : Row 4 11 s p own
+  pub ends : getD own 0 0 ≡ e
+  pub inside : Inner 3 10 s (getD own 3 0) sync
+  pub is : new ≡ clockNumbers own sync
+
+abbrev pub ClocksAt : Text → ℕ → List ℕ → List ℕ → Type 0
+ClocksAt s p old new = (e : ℕ) × Clocks s p e new
 
 -- ---- the items of an array
 
@@ -152,15 +177,37 @@ pub record Manifest (s : Text) (p e : ℕ) (old new : List ℕ) : Type 0 where
   pub few : tooMany s p ≡ false
   pub index : old ≡ replicate 2470 0 → new ≡ indexOf s p
 
--- the array of an object, in its column c, is told; without one nothing is put
-pub record Array (T : ℕ → List ℕ → List ℕ → Type 0) (c : ℕ) (old new : List ℕ) : Type 0 where
+-- what stands in an object's column c, an array or an object, is told; if nothing does, nothing is put
+pub record Holds (T : ℕ → List ℕ → List ℕ → Type 0) (c : ℕ) (old new : List ℕ) : Type 0 where
   pub without : c ≡ 0 → new ≡ old
   pub within : (c ≡ 0 → ⊥) → T c old new
 
--- what a member with an array puts: it stands at v, and its line is n
+-- what a member with an array or an object puts: it stands at v, and its line is n
 pub record Puts (T : ℕ → List ℕ → List ℕ → Type 0) (n line v : ℕ) (old new : List ℕ) : Type 0 where
   pub other : (line ≡ n → ⊥) → new ≡ old
   pub this : line ≡ n → T v old new
+
+-- what a member of an entry puts into the index, and what of `machine` and of `clocks` it leaves kept
+pub record EntryPuts (s : Text) (base line v : ℕ) (ix ix′ m m′ c c′ : List ℕ) : Type 0 where
+  pub items : Puts (MachinesAt s (base + 12)) 12 line v ix ix′
+  pub machine : Puts (RowAt 6 11 s) 11 line v m m′
+  pub clocks : Puts (ClocksAt s) 13 line v c c′
+
+-- the same of the members that a row tells
+pub record EntryHolds (s : Text) (base : ℕ) (row ix ix′ m m′ c c′ : List ℕ) : Type 0 where
+  pub items : Holds (MachinesAt s (base + 12)) (getD row 3 0) ix ix′
+  pub machine : Holds (RowAt 6 11 s) (getD row 2 0) m m′
+  pub clocks : Holds (ClocksAt s) (getD row 4 0) c c′
+
+-- what a member of the manifest object puts into the index, and what of `trace_time` it leaves kept
+pub record ManifestPuts (s : Text) (line v : ℕ) (ix ix′ m m′ : List ℕ) : Type 0 where
+  pub files : Puts (FilesAt s) 19 line v ix ix′
+  pub trace : Puts (RowAt 10 13 s) 18 line v m m′
+
+-- the same of the members that a row tells
+pub record ManifestHolds (s : Text) (row ix ix′ m m′ : List ℕ) : Type 0 where
+  pub files : Holds (FilesAt s) (getD row 3 0) ix ix′
+  pub trace : Holds (RowAt 10 13 s) (getD row 2 0) m m′
 
 -- the survey's answer is 0, and this is the index
 pub record Clear (s : Text) (ix : List ℕ) : Type 0 where

@@ -1,5 +1,5 @@
--- The table by numbers: the columns that the code holds are those of the lines, the lines about one object stand together and have different names, a member's kind has a
--- smaller number than its object's, and what each of the twelve kinds is. Assumes nothing.
+-- The table by numbers: the columns that the code holds are those of the lines, each line has a known name, the lines about one object stand together and have different
+-- names, a member's kind has a smaller number than its object's, and what each of the twelve kinds is. Assumes nothing.
 use mathlib.Core.Path.{_≡_, refl, sym, ap, _∙_}
 use mathlib.Core.Bool.{Bool, true, false, not, _&&_, true≢false}
 use mathlib.Core.List.{List, [], _∷_, map}
@@ -10,16 +10,16 @@ use native.Mathlib.Omega.{arith}
 use lib.Dec.{eqb, ltb, leb, lit<}
 use lib.ListN.{getD, length, List·getD-eq-default}
 use borrow.Author.Tests.{ltb-true, leb-true, eqb-true, eq-eqb, ne-eqb, lt-ltb, le-leb, not-false}
-use Rattle.text.specs.Reading.{Text, pick}
+use Rattle.text.specs.Reading.{pick}
 use Rattle.json.specs.Tree.{same}
 use Rattle.manifest.specs.Kinds.{text, integer, array, object}
 use Rattle.manifest.specs.laws.Bools.{two}
 use Rattle.manifest.specs.laws.Judge.{fits}
 use Rattle.manifest.specs.laws.Table.{Line, lines, kindAt, fieldsAt}
 use Rattle.table.specs.Table.{no-line, lineAt, wantedOf, linesBefore, firstLine}
-use Rattle.values.specs.Strings.{sameAs}
+use Rattle.values.specs.Theorems.{same-is-equal}
 use Rattle.table.specs.laws.Some.{some, some-not}
-use Rattle.table.specs.laws.Heads.{letterOf, Heads}
+use Rattle.table.specs.laws.Names.{nameAt}
 
 column : (f : Line → ℕ) → f no-line ≡ 0 → (ls : List Line) (j : ℕ) → getD (map f ls) j 0 ≡ f (getD ls j no-line)
 column f z [] j = sym z
@@ -57,32 +57,47 @@ pub none-asked : (j : ℕ) → 20 ≤ j → lineAt j .asked ≡ false
 unfolding lineAt
 none-asked j h = ap (λ (l : Line). l .asked) (List·getD-eq-default lines no-line h)
 
--- the first bytes of the names, which are of ASCII
-pub letter-at : (j : ℕ) → getD (map (λ l. letterOf (l .name)) lines) j 0 ≡ letterOf (lineAt j .name)
-unfolding lineAt
-letter-at j = column (λ l. letterOf (l .name)) refl lines j
-
-abbrev lettered : Text → Bool
-lettered [] = false
-lettered (c ∷ cs) = ltb c 128
-
--- a string that begins otherwise is not the name of the line
-pub other-letter : (s : Text) (p : ℕ) {j h l : ℕ} → j < 20 → Heads s p h → l ≡ letterOf (lineAt j .name) → (l ≡ h → ⊥) → sameAs s p (lineAt j .name) ≡ false
-unfolding lineAt
-other-letter s p {j} {h} {l} m heads e ne = go (lineAt j .name) e (each-line (λ k. lettered (k .name)) lines refl j m)
-  where
-    told : (b : Bool) (c : ℕ) (cs : Text) → sameAs s p (c ∷ cs) ≡ b → c < 128 → (c ≡ h → ⊥) → sameAs s p (c ∷ cs) ≡ false
-    told true c cs q k n = absurd (n (heads .begins c cs k q))
-    told false c cs q k n = q
-
-    go : (n : Text) → l ≡ letterOf n → lettered n ≡ true → sameAs s p n ≡ false
-    go [] f g = absurd (true≢false (sym g))
-    go (c ∷ cs) f g = told _ c cs refl (ltb-true c 128 g) (λ q. ne (f ∙ q))
-
 -- a member's kind has a smaller number than its object's
 pub kind-falls : (j : ℕ) → j < 20 → lineAt j .kind < lineAt j .place
 unfolding lineAt
 kind-falls j h = ltb-true _ _ (each-line (λ l. ltb (l .kind) (l .place)) lines refl j h)
+
+-- ---- the names of the lines
+
+abbrev differ : Bool → Bool → Bool
+differ true b = not b
+differ false b = b
+
+same-then : (a b : Bool) → differ a b ≡ false → a ≡ b
+same-then true true e = refl
+same-then true false e = absurd (true≢false e)
+same-then false true e = absurd (true≢false e)
+same-then false false e = refl
+
+-- the constant of the code: the number of each line's name
+abbrev pub numbers : List ℕ
+numbers = 0 ∷ 2 ∷ 4 ∷ 4 ∷ 2 ∷ 6 ∷ 7 ∷ 8 ∷ 9 ∷ 9 ∷ 10 ∷ 2 ∷ 3 ∷ 5 ∷ 4 ∷ 0 ∷ 2 ∷ 11 ∷ 12 ∷ 1 ∷ []
+
+abbrev misnamed : ℕ → ℕ → Bool
+misnamed m j = differ (eqb (getD numbers j 0) m) (same (nameAt m) (lineAt j .name))
+
+numbers-agree : some (λ m. some (λ j. misnamed m j) 20) 13 ≡ false
+unfolding some nameAt lineAt same pick
+numbers-agree = refl
+
+-- a line has a name exactly where it has the name's number
+pub number-at : (j m : ℕ) → j < 20 → m < 13 → eqb (getD numbers j 0) m ≡ same (nameAt m) (lineAt j .name)
+number-at j m hj hm = same-then _ _ (some-not (λ i. misnamed m i) 20 j (some-not (λ k. some (λ i. misnamed k i) 20) 13 m numbers-agree hm) hj)
+
+numbers-few : some (λ j. not (ltb (getD numbers j 0) 13)) 20 ≡ false
+unfolding some
+numbers-few = refl
+
+-- each line has a known name
+pub name-at : (j : ℕ) → j < 20 → (getD numbers j 0 < 13) × (nameAt (getD numbers j 0) ≡ lineAt j .name)
+name-at j h =
+    let l : getD numbers j 0 < 13 = ltb-true _ 13 (not-false _ (some-not (λ i. not (ltb (getD numbers i 0) 13)) 20 j numbers-few h)) in
+    (l, same-is-equal _ _ (sym (number-at j (getD numbers j 0) h l) ∙ eq-eqb (getD numbers j 0) (getD numbers j 0) refl))
 
 -- ---- the lines about one object
 
@@ -123,16 +138,6 @@ no-place o j h l e =
 
 pub first-few : (k : ℕ) → k < 13 → firstLine k ≤ 20
 first-few k l = leb-true _ _ (not-false _ (some-not (λ n. not (leb (firstLine n) 20)) 13 k starts-few l))
-
-abbrev differ : Bool → Bool → Bool
-differ true b = not b
-differ false b = b
-
-same-then : (a b : Bool) → differ a b ≡ false → a ≡ b
-same-then true true e = refl
-same-then true false e = absurd (true≢false e)
-same-then false true e = absurd (true≢false e)
-same-then false false e = refl
 
 -- line j is among the lines of an object of kind o
 abbrev among : ℕ → ℕ → Bool

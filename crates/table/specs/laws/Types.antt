@@ -1,8 +1,7 @@
--- Where a value stands its type is told by its kind, and a number's by what it is as an integer; and the name of a line. Assumes nothing.
+-- Where a value stands its type is told by its kind, and a number's by what it is as an integer. Assumes nothing.
 use mathlib.Core.Path.{_≡_, refl, sym, ap, _∙_}
 use mathlib.Core.Bool.{Bool, true, false}
-use Prim.Native.Nat.{ℕ, suc, _<_, _≤_}
-use native.Mathlib.Omega.{arith}
+use Prim.Native.Nat.{ℕ}
 use lib.Signed.{ltZ}
 use Rattle.text.specs.Reading.{Text, pick}
 use Rattle.json.specs.Tree.{Tree, null, bool, num, str, arr, obj}
@@ -10,11 +9,10 @@ use Rattle.values.specs.declared.Kind.{Kind}
 use Rattle.values.specs.declared.Integer.{Integer}
 use Rattle.values.specs.declared.Integer.the-variants.{In, Below, Above}
 use Rattle.values.specs.Integer.{Whole, whole, none, ranged, integer, integerAt, integerOf}
-use Rattle.values.specs.Strings.{sameAs}
 use Rattle.values.specs.Stands.{Stands, kindOf, kindAt as kindThere}
 use Rattle.values.specs.Theorems.{kind-stands, integer-stands}
 use Rattle.manifest.specs.laws.Judge.{tag-number, tag}
-use Rattle.table.specs.Table.{lineAt, tagOfNumber, tagOf, tagAt}
+use Rattle.table.specs.Table.{tagOfNumber, tagOf, tagAt}
 
 number-is : (w : Whole) → tagOfNumber (ranged w) ≡ tag-number w
 unfolding ranged tag-number tagOfNumber pick
@@ -50,19 +48,3 @@ tag-by s p ek e h = h ∙ ap (λ (q : Kind). tagOf q (integerAt s p)) (sym e ∙
 
 pub number-by : {n m d : Integer} {r : ℕ} → n ≡ m → n ≡ d → r ≡ tagOfNumber d → r ≡ tagOfNumber m
 number-by en e h = h ∙ ap tagOfNumber (sym e ∙ en)
-
--- ---- the name of a line
-
--- the name of the line i, which is the line j
-pub this-name : (s : Text) (p : ℕ) {j i : ℕ} → j ≡ i → {x : Bool} → x ≡ sameAs s p (lineAt i .name) → x ≡ sameAs s p (lineAt j .name)
-this-name s p e h = h ∙ ap (λ (n : ℕ). sameAs s p (lineAt n .name)) (sym e)
-
--- what is none of 0 to 18, and below 20, is 19
-pub least : {j : ℕ} → 0 ≤ j
-least = omega arith
-
-pub up : {j n : ℕ} → n ≤ j → (j ≡ n → ⊥) → suc n ≤ j
-up h ne = omega arith
-
-pub last-line : {j : ℕ} → 19 ≤ j → j < 20 → j ≡ 19
-last-line h l = omega arith

@@ -5,16 +5,10 @@ use mathlib.Core.List.{List, [], _∷_}
 use Prim.Native.Nat.{ℕ, _<_}
 use native.Mathlib.Omega.{arith}
 use lib.Dec.{leb, ltb, eqb, T, lit<}
-use lib.ListN.{length, getD}
 use borrow.Author.Tests.{ne-eqb, le-ltb, le-leb}
 use Rattle.text.specs.Reading.{pick}
 use Rattle.text.specs.Class.{Range, range, classOf}
 use Rattle.text.specs.laws.Bytes.{both, agree, classes, from, from-beyond, class-from}
-
--- a list has the class of each byte
-pub record Classes (ks : List ℕ) : Type 0 where
-  pub long : length ks ≡ 256
-  pub each : (b : ℕ) → b < 256 → getD ks b 0 ≡ classOf b
 
 abbrev pub blanks : ℕ → Bool
 blanks b = eqb b 9 || (eqb b 10 || (eqb b 13 || eqb b 32))

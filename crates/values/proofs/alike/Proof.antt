@@ -10,13 +10,13 @@ sub-if1 : tie.Need-sub-if1
 sub-if1 c = search needs
 
 returns : tie.Need-returns
-returns c = alike-none _ _ _ (c .before .before .pre .0) (c .before .before .pre .1)
+returns c = alike-none _ _ _ _ (c .before .before .pre .0) (c .before .before .pre .1)
 
 sub-if2 : tie.Need-sub-if2
 sub-if2 c = search needs
 
 returns-2 : tie.Need-returns-2
-returns-2 c = alike-none _ _ _ (c .before .before .before .pre .0) (c .before .before .before .pre .1)
+returns-2 c = alike-none _ _ _ _ (c .before .before .before .pre .0) (c .before .before .before .pre .1)
 
 pair-marks-requires : tie.Need-pair-marks-requires
 pair-marks-requires c κs = search needs

@@ -1,8 +1,8 @@
 -- `values::length_at` meets its contract. The loop keeps that the bytes counted, with those of what is left of the string, are its length. A row of plain bytes counts as many as it has, and a character takes at least as many bytes of the text as it has in UTF-8, so the count never passes the position.
 -- Assumes nothing.
-use Rattle.values.specs.Strings.{lengthAt}
-use Rattle.values.proofs.Rest.{character-in, some-byte, code-of, code-no}
-use Rattle.values.specs.laws.Compared.{rest}
+use Rattle.values.specs.Strings.{lengthAt, rest}
+use Rattle.values.proofs.Widths.{character-in, some-byte}
+use Rattle.values.specs.laws.Rest.{code-of, code-no}
 use Rattle.values.proofs.Compare.{lengthFrom, length-none, length-start, plain-ge, length-plain, length-close, length-stop, length-more}
 use Rattle.text.specs.laws.Peek.{found-in}
 use borrow.Author.Needs.{needs}

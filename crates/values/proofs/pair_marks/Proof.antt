@@ -9,7 +9,7 @@ use Rattle.values.proofs.pair_marks.Statement.{statement}
 use Rattle.values.proofs.pair_marks.Tie as tie
 
 abbrev Inv-loop : tie.InvT-loop
-Inv-loop s i k m₀ w₀ j₀ m w j = (j ≤ 8) × Summed (twiceAt s i k) m w j
+Inv-loop s i k m₀ w₀ j₀ m w j = (j ≤ 8) × Summed (twiceAt s i s k) m w j
 
 abbrev μ-loop : tie.MeasureT-loop
 μ-loop s i k m₀ w₀ j₀ m w j = 8 - j

@@ -6,10 +6,10 @@ use native.Mathlib.Omega.{arith}
 use lib.ListN.{length}
 use borrow.Author.Needs.{needs}
 use Rattle.values.proofs.Compare.{both-close, both-longer, both-other, both-more, both-alike, both-stop-left, both-stop-right}
-use Rattle.values.proofs.Rest.{character-in, some-byte, code-of, code-no}
-use Rattle.values.specs.Strings.{bothText}
+use Rattle.values.proofs.Widths.{character-in, some-byte}
+use Rattle.values.specs.laws.Rest.{code-of, code-no}
+use Rattle.values.specs.Strings.{bothText, rest}
 use Rattle.values.specs.laws.Ordinary.{reads-itself, inside}
-use Rattle.values.specs.laws.Compared.{rest}
 use Rattle.values.proofs.same_rest.Statement.{statement}
 use Rattle.values.proofs.same_rest.Tie as tie
 

@@ -20,17 +20,17 @@ byte-requires-2 c κs = search needs
 returns-2 : tie.Need-returns-2
 returns-2 c = both-right _ _ _ (λ e. c .if2 .taken (c .before .byte2 .ensures ∙ e))
 
-add-same-rest : tie.Need-add-same-rest
-add-same-rest c = omega (arith, found-in _ _ (c .before .before .before .byte .ensures) (c .before .before .if1 .left) tt)
+add-same-first : tie.Need-add-same-first
+add-same-first c = omega (arith, found-in _ _ (c .before .before .before .byte .ensures) (c .before .before .if1 .left) tt)
 
-add-same-rest-2 : tie.Need-add-same-rest-2
-add-same-rest-2 c = omega (arith, found-in _ _ (c .before .byte2 .ensures) (c .if2 .left) tt)
+add-same-first-2 : tie.Need-add-same-first-2
+add-same-first-2 c = omega (arith, found-in _ _ (c .before .byte2 .ensures) (c .if2 .left) tt)
 
-same-rest-requires : tie.Need-same-rest-requires
-same-rest-requires c κs = search needs
+same-first-requires : tie.Need-same-first-requires
+same-first-requires c κs = (omega (arith, found-in _ _ (c .before .before .before .byte .ensures) (c .before .before .if1 .left) tt), omega (arith, found-in _ _ (c .before .byte2 .ensures) (c .if2 .left) tt))
 
 returns-3 : tie.Need-returns-3
-returns-3 c = c .same-rest .ensures ∙ both-start _ _ _ (sym (c .before .before .before .before .byte .ensures) ∙ c .before .before .before .if1 .left) (sym (c .before .before .byte2 .ensures) ∙ c .before .if2 .left)
+returns-3 c = c .same-first .ensures ∙ both-start _ _ _ (sym (c .before .before .before .before .byte .ensures) ∙ c .before .before .before .if1 .left) (sym (c .before .before .byte2 .ensures) ∙ c .before .if2 .left)
 
 pub same-texts-spec : {M : Type 1} → statement M
 same-texts-spec =
@@ -40,7 +40,7 @@ same-texts-spec =
     returns
     byte-requires-2
     returns-2
-    add-same-rest
-    add-same-rest-2
-    same-rest-requires
+    add-same-first
+    add-same-first-2
+    same-first-requires
     returns-3)

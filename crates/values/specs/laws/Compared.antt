@@ -1,17 +1,23 @@
--- A text compared with bytes that come one after the other, and what is left of a string. Assumes nothing.
+-- A text compared with bytes that come one after the other: whether they stand in it, and where they end. Assumes nothing.
 use mathlib.Core.Bool.{Bool, _&&_}
 use mathlib.Core.List.{[], _∷_}
-use Prim.Native.Nat.{ℕ, suc, _+_}
+use Prim.Native.Nat.{ℕ, _+_}
 use lib.ListN.{length}
-use lib.Dec.{eqb}
-use Rattle.text.specs.Reading.{Text, Out, peek}
-use Rattle.text.specs.Strings.{characters}
+use lib.Dec.{eqb, leb}
+use Rattle.text.specs.Reading.{Text, Out, done, bad, deep, pick, peek}
 
 -- so far the same, and the bytes stand in t from k on
 unfoldable pub startsFrom : Bool → Text → Text → ℕ → Bool
 startsFrom ok [] t k = ok
 startsFrom ok (x ∷ xs) t k = startsFrom (ok && eqb x (peek t k)) xs t (k + 1)
 
--- what is left of a string from a position within it on
-unfoldable pub rest : Text → ℕ → Out Text
-rest s i = characters (suc (length s)) s i
+-- where the bytes end in t, if they stand there from k on; past the end if they don't
+unfoldable pub reach : Text → Text → ℕ → ℕ
+reach [] t k = pick (leb k (length t)) k (length t + 1)
+reach (x ∷ xs) t k = pick (eqb x (peek t k)) (reach xs t (k + 1)) (length t + 1)
+
+-- the same of what was read
+unfoldable pub endsFrom : Out Text → Text → ℕ → ℕ
+endsFrom (done u j) t k = reach u t k
+endsFrom (bad p) t k = length t + 1
+endsFrom (deep p) t k = length t + 1
