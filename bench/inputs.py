@@ -56,8 +56,9 @@ def paired(pairs, snapshots, order):
 
 # Manifests.
 
-def manifest(said):
-    return json.dumps({'perfetto_manifest': said}, separators=(',', ':')).encode()
+def manifest(said, escapes=True):
+    """A manifest's bytes. What is not ASCII is escaped, or stands there as UTF-8."""
+    return json.dumps({'perfetto_manifest': said}, ensure_ascii=escapes, separators=(',', ':')).encode()
 
 
 def filled(said, holders, size, text):
@@ -117,14 +118,21 @@ def crammed(front, begin, part, end):
     return text[:at] + begin + part * count + end + text[at:], few_sheet(100)
 
 
-def related_files(path):
+def related_files(path, escapes=True):
     """32 files, each on a machine of its own but one, and each related to the one before."""
     entries = [{'path': path(i), 'machine': {'name': f'm{i % 31}'}} for i in range(32)]
     for before, entry in zip(entries, entries[1:]):
         there = {'file': before['path'], 'machine': before['machine']['name'], 'clock': 'MONOTONIC'}
         entry['clocks'] = {'clock': 'BOOTTIME', 'machine': entry['machine']['name'], 'sync_to': there, 'offset_ns': 250000000}
     listed = [File(0, BOOTTIME, entry['path'].encode()) for entry in entries] + [Source(i, 0) for i in range(32)]
-    return manifest({'version': 1, 'files': entries}), sheet(listed, [Event(i, BOOTTIME, SECOND) for i in range(32)])
+    return manifest({'version': 1, 'files': entries}, escapes), sheet(listed, [Event(i, BOOTTIME, SECOND) for i in range(32)])
+
+
+def few_events():
+    """No manifest, and as many snapshots as there may be, shared by 32 files, for one event of each."""
+    listed = [File(0, BOOTTIME, f'{i:02}'.encode()) for i in range(32)] + [Source(i, 0) for i in range(32)]
+    listed += [Snapshot(i % 32, MONOTONIC, i * SECOND, BOOTTIME, i * SECOND + 77) for i in range(256)]
+    return b'', sheet(listed, [Event(i, MONOTONIC, SECOND) for i in range(32)])
 
 
 # The worst that was found.
@@ -181,6 +189,9 @@ INPUTS['manifest-short'] = ('manifest of 64 KiB, short texts of two-byte charact
 INPUTS['manifest-near'] = ('manifest of 64 KiB, names that begin as known ones do', lambda: crammed(b'"sync_to":{', b'', b'"m":0,', b''))
 INPUTS['files-short'] = ('32 related files, short paths', lambda: related_files(lambda i: f'{i:02}.pftrace'))
 INPUTS['files-long'] = ('32 related files, paths of 250 bytes', lambda: related_files(lambda i: 'lab/' * 60 + f'{i:02}.pftrace'))
+INPUTS['files-wide'] = ('32 related files, paths of two-byte characters', lambda: related_files(lambda i: 'é' * 126 + f'{i:02}', False))
+INPUTS['files-escaped'] = ('32 related files, paths of escapes', lambda: related_files(lambda i: '\t' * 252 + f'{i:02}'))
+INPUTS['snapshots'] = ('256 snapshots of 32 files, 32 events', few_events)
 INPUTS['long-ways'] = ('paths of 191 pairs', long_ways)
 INPUTS['worst'] = ('the worst found: paths of 185 pairs, manifest of 64 KiB', worst)
 

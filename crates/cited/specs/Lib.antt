@@ -1,3 +1,3 @@
--- Refusals 19 to 23: cited files and machines, and offsets. In reading order.
+-- Refusals 19 to 24: cited files and machines, offsets, and clocks related to themselves. In reading order.
 pub mod Cited
 pub mod laws

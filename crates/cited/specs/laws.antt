@@ -7,4 +7,5 @@ pub mod Rule19
 pub mod Rule20
 pub mod Rule21
 pub mod Offsets
+pub mod Rule24
 pub mod Order

@@ -1,11 +1,11 @@
-// Refusals 19 to 23: cited files and machines, and offsets.
+// Refusals 19 to 24: cited files and machines, offsets, and clocks related to themselves.
 ghost use mathlib.Core.Path.{_≡_};
 ghost use Prim.Native.Nat.{_<_};
 ghost use Rattle.json.specs.Tree.{same};
 ghost use Rattle.manifest.specs.Rows.{holds, any, declared};
 ghost use Rattle.manifest.specs.Rules.{applies, first, named-entry, no-entry, not-declared, no-integer, too-far};
 ghost use Rattle.manifest.specs.Rules.{refusal-19-file-names-no-entry, refusal-20-no-machine-of-a-split-file, refusal-21-machine-not-declared};
-ghost use Rattle.manifest.specs.Rules.{refusal-22-offset-not-an-integer, refusal-23-offset-out-of-range};
+ghost use Rattle.manifest.specs.Rules.{refusal-22-offset-not-an-integer, refusal-23-offset-out-of-range, refusal-24-clock-related-to-itself};
 ghost use Rattle.index.specs.Index.{textAt, textCell, offsetCell, entryAt, manifestOf};
 ghost use Rattle.finds.specs.Finds.{citesOf};
 ghost use Rattle.cited.specs.Cited.{cited-rules};
@@ -342,18 +342,53 @@ fn refusal_23_offset_out_of_range(s: &[u8], ix: &[usize; 2470]) -> bool
     false
 }
 
-// The number of the first of these rules that applies to the manifest; 0 if none does.
-pub fn refusal(s: &[u8], ix: &[usize; 2470]) -> u8
-    ensures { λ r. ⌜ r ≡ first cited-rules (manifestOf (now (s .entry)) (now (ix .entry))) ⌝ }
+// Entry i relates a clock to itself. Without `clocks`, `sync_to`, its `file`, or an entry of that path it relates none: the table of what each entry cites has 32 then.
+fn itself_in(s: &[u8], ix: &[usize; 2470], i: usize, cites: &[usize; 32]) -> bool
+    requires { ⌜ (i < 32) × (now cites ≡ citesOf (now s) (now ix)) ⌝ }
+    ensures { λ r. ⌜ r ≡ withinAt refusal-24-clock-related-to-itself (now (s .entry)) (now (ix .entry)) i ⌝ }
 {
-    let cites = finds::cites(s, ix);
-    if refusal_19_file_names_no_entry(s, ix, &cites) {
+    if index::col(ix, i, 4) == 0 {
+        return false;
+    }
+    if index::col(ix, i, 7) == 0 {
+        return false;
+    }
+    let reference = cites[i];
+    if reference < 32 {
+        return itself::same_clocks(s, ix, i, reference);
+    }
+    false
+}
+
+// 24: some entry relates a clock to itself.
+fn refusal_24_clock_related_to_itself(s: &[u8], ix: &[usize; 2470], cites: &[usize; 32]) -> bool
+    requires { ⌜ now cites ≡ citesOf (now s) (now ix) ⌝ }
+    ensures { λ r. ⌜ r ≡ applies refusal-24-clock-related-to-itself (manifestOf (now (s .entry)) (now (ix .entry))) ⌝ }
+{
+    let n = index::entries(ix);
+    let mut i: usize = 0;
+    while i < n {
+        if itself_in(s, ix, i, cites) {
+            return true;
+        }
+        i += 1;
+    }
+    false
+}
+
+// The number of the first of these rules that applies to the manifest; 0 if none does. `cites` gets, for each entry, which entry it cites.
+pub fn refusal(s: &[u8], ix: &[usize; 2470], cites: &mut [usize; 32]) -> u8
+    ensures { λ r. ⌜ (r ≡ first cited-rules (manifestOf (now (s .entry)) (now (ix .entry)))) × (now (cites .exit) ≡ citesOf (now (s .entry)) (now (ix .entry))) ⌝ }
+{
+    let table = finds::cites(s, ix);
+    *cites = table;
+    if refusal_19_file_names_no_entry(s, ix, &table) {
         return 19;
     }
-    if refusal_20_no_machine_of_a_split_file(s, ix, &cites) {
+    if refusal_20_no_machine_of_a_split_file(s, ix, &table) {
         return 20;
     }
-    if refusal_21_machine_not_declared(s, ix, &cites) {
+    if refusal_21_machine_not_declared(s, ix, &table) {
         return 21;
     }
     if refusal_22_offset_not_an_integer(s, ix) {
@@ -361,6 +396,9 @@ pub fn refusal(s: &[u8], ix: &[usize; 2470]) -> u8
     }
     if refusal_23_offset_out_of_range(s, ix) {
         return 23;
+    }
+    if refusal_24_clock_related_to_itself(s, ix, &table) {
+        return 24;
     }
     0
 }

@@ -1,12 +1,14 @@
--- What is found in an index: the entry of a path, the entry that each cites, the item of an id, the name of a file's base machine. Assumes nothing.
-use mathlib.Core.List.{List}
-use Prim.Native.Nat.{ℕ}
-use lib.Dec.{eqb}
+-- What is found in an index: the entry of a path, the entry that each cites, the item of an id, the name of a file's base machine; and a table of what is asked for often.
+-- Assumes nothing.
+use mathlib.Core.List.{List, _++_, map}
+use Prim.Native.Nat.{ℕ, _+_}
+use lib.Dec.{eqb, ltb}
 use lib.IntN.{pos}
 use Rattle.text.specs.Reading.{Text, pick}
 use Rattle.manifest.specs.Rows.{Manifest, id, firstOr, holds, entries, its-items}
 use Rattle.manifest.specs.Rules.{has-path, same-id}
 use Rattle.index.specs.Index.{textAt, colOf, itemOf, listed, entryAt, manifestOf}
+use Rattle.named.specs.Named.{nameTable, printTable}
 
 -- which entry has a path: the first one that has it; 32 if none has
 unfoldable pub entryOf : Manifest → Text → ℕ
@@ -19,6 +21,14 @@ citedBy s ix i = pick (eqb (colOf ix i 8) 0) 32 (entryOf (manifestOf s ix) (text
 -- of entries 0 to 31. (Past the last entry an index has no `file`)
 unfoldable pub citesOf : Text → List ℕ → List ℕ
 citesOf s ix = listed (citedBy s ix) 0 32
+
+-- a cited entry's number, from 1 on; 0 for none
+unfoldable pub fromOne : ℕ → ℕ
+fromOne e = pick (ltb e 32) (e + 1) 0
+
+-- what is looked up often, in one table: where the names of machines 1, 2, .. stand, their prints, and which entry each entry cites
+unfoldable pub lookups : Text → List ℕ → List ℕ
+lookups s ix = nameTable s ix ++ (printTable s ix ++ map fromOne (citesOf s ix))
 
 -- which item of entry i has an id: the first one that has it; 32 if none has
 unfoldable pub itemWith : Text → List ℕ → ℕ → ℕ → ℕ

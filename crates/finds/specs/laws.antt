@@ -3,5 +3,6 @@ pub mod Swaps
 pub mod Firsts
 pub mod Paths
 pub mod Cites
+pub mod Lookups
 pub mod Ids
 pub mod Bases

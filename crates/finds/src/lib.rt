@@ -1,5 +1,6 @@
 // What is found in an index: the entry of a path, the entry that each cites, the name for an id, the name of a file's base machine.
 ghost use mathlib.Core.Path.{_≡_};
+ghost use mathlib.Core.List.{_++_, map};
 ghost use lib.Dec.{eqb};
 ghost use lib.IntN.{pos};
 ghost use lib.ListN.{length};
@@ -7,8 +8,9 @@ ghost use Rattle.json.specs.Tree.{same};
 ghost use Rattle.manifest.specs.Rows.{holds};
 ghost use Rattle.manifest.specs.Rules.{same-id};
 ghost use Rattle.index.specs.Index.{textAt, textCell, idCell, manifestOf};
-ghost use Rattle.named.specs.laws.Tables.{pathPrints};
-ghost use Rattle.finds.specs.Finds.{entryOf, citedBy, citesOf, nameFor, baseAt};
+ghost use Rattle.named.specs.Prints.{pathPrints};
+ghost use Rattle.named.specs.Named.{nameTable, printTable};
+ghost use Rattle.finds.specs.Finds.{entryOf, citedBy, citesOf, fromOne, nameFor, baseAt};
 
 // Which entry has the path that stands at p: the first one; 32 if none has.
 pub fn entry_with(s: &[u8], ix: &[usize; 2470], p: usize) -> usize
@@ -87,22 +89,38 @@ fn cited_by(s: &[u8], ix: &[usize; 2470], i: usize, prints: &[u32; 32]) -> usize
     32
 }
 
-// Which entry has this path.
-pub fn entry_named(s: &[u8], ix: &[usize; 2470], path: &[u8]) -> usize
-    ensures { λ r. ⌜ r ≡ entryOf (manifestOf (now (s .entry)) (now (ix .entry))) (now (path .entry)) ⌝ }
+// Fills the table of what is looked up often: the names of machines, their prints, and which entry each entry cites, as it is given.
+pub fn fill(s: &[u8], ix: &[usize; 2470], cites: &[usize; 32], table: &mut [usize; 96])
+    ensures { λ _. ⌜ now (table .exit) ≡ nameTable (now (s .entry)) (now (ix .entry)) ++ (printTable (now (s .entry)) (now (ix .entry)) ++ map fromOne (now (cites .entry))) ⌝ }
 {
-    let n = index::entries(ix);
+    let zeros: [usize; 96] = [0; 96];
+    *table = zeros;
+    let names = named::fill(s, ix);
+    let positions = names.positions;
+    let prints = names.prints;
+    // (a slice tells its length)
+    let entries: &[usize] = cites;
     let mut i: usize = 0;
-    while i < n {
-        let at = index::col(ix, i, 0);
-        if at != 0 {
-            if index::text_is(s, at, path) {
-                return i;
-            }
-        }
+    while i < 32 {
+        table[i] = positions[i];
+        table[32 + i] = wide(prints[i]);
+        table[64 + i] = from_one(entries[i]);
         i += 1;
     }
-    32
+}
+
+// A print as a number of the table.
+fn wide(print: u32) -> usize
+    ensures { λ r. ⌜ r ≡ print ⌝ }
+{
+    print as usize
+}
+
+// The number of a cited entry from 1 on; 0 for none.
+fn from_one(e: usize) -> usize
+    ensures { λ r. ⌜ r ≡ fromOne e ⌝ }
+{
+    if e < 32 { e + 1 } else { 0 }
 }
 
 // The integer at p is the id. Where none stands, or p is 0, it is not.

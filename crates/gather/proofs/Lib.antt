@@ -1,2 +1,5 @@
 -- Laws that the proofs of the functions use.
+pub mod Words
 pub mod Steps
+pub mod Recorded
+pub mod Listings

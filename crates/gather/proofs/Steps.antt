@@ -3,16 +3,12 @@ use mathlib.Core.Path.{_≡_, refl, sym, ap, _∙_}
 use mathlib.Core.Bool.{Bool, true, false}
 use mathlib.Core.Logic.{_⊎_, inl, inr}
 use mathlib.Core.List.{List, [], _∷_, _++_, append-assoc}
-use Prim.Native.Nat.{ℕ, zero, suc, _+_, _-_, _*_, _≤_, _<_}
+use Prim.Native.Nat.{ℕ, suc, _+_, _-_, _*_, _≤_, _<_}
 use native.Mathlib.Omega.{arith}
-use lib.Dec.{eqb}
-use lib.ListN.{length, getD, set, take, replicate, length-append}
-use lib.Seq.{take-suc-set}
-use borrow.Author.Tests.{eq-eqb, ne-eqb, le-ltb}
-use Rattle.bits.specs.Bits.{number, takenAt}
-use Rattle.bits.specs.laws.Number.{number-lt}
-use Rattle.bits.specs.laws.Fields.{take-in}
-use Rattle.bits.specs.declared.Taken.{Taken}
+use lib.Dec.{eqb, ltb}
+use lib.ListN.{length, getD, take, replicate, length-append}
+use lib.Seq.{length-take-le}
+use borrow.Author.Tests.{le-ltb}
 use Rattle.records.specs.Layout.{bytesAt}
 use Rattle.records.specs.Readers.{headAt, sourceAt, snapshotAt, pathAt}
 use Rattle.records.specs.declared.Head.{Head}
@@ -21,7 +17,9 @@ use Rattle.records.specs.declared.Snapshot.{Snapshot}
 use Rattle.text.specs.Reading.{Text, pick}
 use Rattle.text.specs.laws.Readers.{pick-false}
 use Rattle.numbers.specs.declared.Machine.{Machine}
+use Rattle.manifest.specs.declared.Cited.the-variants.{Private, Domain}
 use Rattle.manifest.specs.declared.Link.{Link}
+use Rattle.manifest.specs.declared.Link.the-variants.{Unrelated, Related}
 use Rattle.manifest.specs.Rows.{holds, firstOr}
 use Rattle.manifest.specs.Rules.{has-path}
 use Rattle.sheet.specs.Places.{placeOf, placeIn, filePlaces}
@@ -29,52 +27,25 @@ use Rattle.sheet.specs.Sheets.{readOf}
 use Rattle.sheet.specs.laws.Places.{places-at, length-from}
 use Rattle.sheet.specs.declared.Table.{Table}
 use Rattle.sheet.specs.declared.Sheet.the-variants.{Refused, Listed}
-use Rattle.index.specs.Index.{rows, entriesIn, manifestOf}
+use Rattle.outline.specs.Outline.{domainAt}
+use Rattle.index.specs.Index.{colOf, rows, entriesIn, manifestOf}
 use Rattle.index.specs.laws.Entries.{from, entryCell}
 use Rattle.index.specs.laws.Rows.{rows-length, rows-at}
 use Rattle.index.specs.laws.Put.{Put, put-more, put-same, put-all}
-use Rattle.finds.specs.Finds.{entryOf}
+use Rattle.finds.specs.Finds.{entryOf, baseAt}
 use Rattle.finds.specs.laws.Firsts.{first-among}
 use Rattle.finds.specs.laws.Paths.{few-entries, entryFrom, entry-start}
-use Rattle.named.specs.Named.{countIn}
+use Rattle.named.specs.Named.{countIn, numberAt}
 use Rattle.meant.specs.declared.Owned.{Owned}
 use Rattle.meant.specs.declared.Owned.the-variants.{Nobody, Whole, Split}
 use Rattle.meant.specs.declared.Part.{Part}
-use Rattle.meant.specs.Meant.{baseOf, ownedOf, partOf, linkOf}
-use Rattle.checks.specs.laws.Listed.{Open, open-start, open-found, open-on, open-past}
-use Rattle.gather.specs.Gathered.{tieCode, partCode, ownedCode, flag, rowIn, entryFor, recordedIn, fileRow, sourceRow, gatheredIn, gatheredBy, gathered}
+use Rattle.meant.specs.Meant.{baseOf, ownedOf, partOf, citedAt, offsetAt, relatedTo, citesBy, linkOf, tiedBy}
+use Rattle.gather.specs.Gathered.{citedCode, tieCode, partCode, ownedCode, flag, rowIn, entryFor, recordedIn, fileRow, sourceRow, gatheredIn, gatheredBy, gathered}
 use Rattle.gather.specs.laws.Near.{Near, Cites, Known}
 use Rattle.gather.specs.laws.Rows.{owned-length, file-length, source-length, row-here, put-at, put-before}
+use Rattle.gather.proofs.Words.{front-is}
 
--- ---- the byte at a bit position
-module _ (b : List ℕ) (at : ℕ) {x : Taken} (e : x ≡ takenAt b at 8) (near : at < 0x2000000000) where
-  pub byte-is : x .value ≡ number b at 8
-  byte-is = ap (λ (y : Taken). y .value) (e ∙ take-in b at 8 (omega arith) (omega arith))
-
-  pub byte-low : x .value < 256
-  byte-low = omega (arith, number-lt b at 8, byte-is)
-
--- ---- a path, byte by byte
-bytes-more : (b : List ℕ) (at i : ℕ) → bytesAt b at (suc i) ≡ bytesAt b at i ++ (number b (at + 8 * i) 8 ∷ [])
-unfolding bytesAt
-bytes-more b at zero = let e : at ≡ at + 8 * 0 = omega arith in ap (λ (p : ℕ). number b p 8 ∷ []) e
-bytes-more b at (suc i) =
-    let e : at + 8 + 8 * i ≡ at + 8 * suc i = omega arith in
-    ap (λ (l : List ℕ). number b at 8 ∷ l) (bytes-more b (at + 8) i ∙ ap (λ (p : ℕ). bytesAt b (at + 8) i ++ (number b p 8 ∷ [])) e)
-
-pub path-start : (b : List ℕ) (at : ℕ) (path : List ℕ) → take 0 path ≡ bytesAt b (at + 15) 0
-unfolding bytesAt
-path-start b at path = refl
-
-pub path-next : (b : List ℕ) (at i : ℕ) (path : List ℕ) → i < length path → take i path ≡ bytesAt b (at + 15) i → {x : ℕ} → x ≡ number b (at + 15 + 8 * i) 8
-    → take (i + 1) (set path i x) ≡ bytesAt b (at + 15) (i + 1)
-path-next b at i path h e {x} q =
-    let s : suc i ≡ i + 1 = omega arith in
-    ap (λ (n : ℕ). take n (set path i x)) (sym s)
-    ∙ take-suc-set path i x h
-    ∙ (λ k. e k ++ (q k ∷ []))
-    ∙ sym (bytes-more b (at + 15) i)
-    ∙ ap (bytesAt b (at + 15)) s
+-- ---- the entry of a path
 
 -- an entry's number is at most 32
 pub entry-few : (s : Text) (ix : List ℕ) (t : Text) → entryOf (manifestOf s ix) t ≤ 32
@@ -86,14 +57,13 @@ entry-few s ix t = go (first-among (entryCell s ix) 32 (holds (has-path t)) 0 (e
     go (inr l) = omega (arith, entry-start s ix t, few-entries ix)
 
 module _ (s : Text) (ix b : List ℕ) (at : ℕ) {h : Head} (eh : h ≡ headAt b at) {n : ℕ} (en : n ≡ h .length) (path : List ℕ)
-    {i : ℕ} (lo : i ≤ n) (hi : n ≤ i) (e : take i path ≡ bytesAt b (at + 15) i) {r : ℕ} (er : r ≡ entryOf (manifestOf s ix) (take (n - 0) path)) where
+    {i : ℕ} (hi : n ≤ i) (e : take i path ≡ bytesAt b (at + 15) i) {r : ℕ} (er : r ≡ entryOf (manifestOf s ix) (take (n - 0) path)) where
   pub entry-at : (r ≡ entryOf (manifestOf s ix) (pathAt b at)) × (r ≤ 32)
   entry-at =
-      let z : n - 0 ≡ i = omega arith in
-      let y : i ≡ n = omega arith in
+      let z : n - 0 ≡ n = omega arith in
       let q : r ≡ entryOf (manifestOf s ix) (pathAt b at) =
       er ∙ ap (λ (k : ℕ). entryOf (manifestOf s ix) (take k path)) z
-      ∙ ap (entryOf (manifestOf s ix)) (e ∙ ap (bytesAt b (at + 15)) (y ∙ en ∙ ap (λ (x : Head). x .length) eh)) in
+      ∙ ap (entryOf (manifestOf s ix)) (front-is b (at + 15) n i path hi e ∙ ap (bytesAt b (at + 15)) (en ∙ ap (λ (x : Head). x .length) eh)) in
       (q, omega (arith, entry-few s ix (pathAt b at)))
 
 -- ---- the snapshots of a file
@@ -108,27 +78,6 @@ module _ (b : List ℕ) (t : Table) (i : ℕ) {n : Snapshot} (en : n ≡ snapsho
   snapshot-is =
       er ∙ ap (λ (y : Source). y .file .0) ex
       ∙ ap (λ (m : ℕ). sourceAt b (t .sources .at + 40 * m) .file .0) (ek ∙ ap (λ (y : Snapshot). y .source) en)
-
--- those from number i on decide
-abbrev pub Left : List ℕ → Table → ℕ → ℕ → Type 0
-Left b t f i = Open (λ (n : Snapshot). eqb (fileIn b t n) f) (snapshotIn b t) (t .snapshots .count) i
-
-module _ (b : List ℕ) (t : Table) (f : ℕ) where
-  pub left-start : Left b t f 0
-  left-start = open-start _ _ _
-
-  module _ (i : ℕ) (o : Left b t f i) where
-    module _ (h : i < t .snapshots .count) {r : ℕ} (er : r ≡ fileIn b t (snapshotIn b t i)) where
-      pub left-found : r ≡ f → (s ix names : List ℕ) → true ≡ recordedIn s ix names b t f
-      unfolding recordedIn
-      left-found q s ix names = sym (open-found _ _ _ i o h (eq-eqb _ f (sym er ∙ q)))
-
-      pub left-on : (r ≡ f → ⊥) → Left b t f (i + 1)
-      left-on q = open-on _ _ _ i o h (ne-eqb _ f (λ e. q (er ∙ e)))
-
-    pub left-past : t .snapshots .count ≤ i → (s ix names : List ℕ) → false ≡ recordedIn s ix names b t f
-    unfolding recordedIn
-    left-past h s ix names = sym (open-past _ _ _ i o h)
 
 -- ---- what is said of a source's machine
 module _ {o q : Owned} (eo : o ≡ q) (p : Part) where
@@ -153,6 +102,26 @@ pub row-none : (n k : ℕ) (row : ℕ → List ℕ) (i : ℕ) → n ≤ i → ro
 unfolding rowIn
 row-none n k row i h = pick-false _ _ (le-ltb i n h)
 
+-- what `meant::tie` tells is the number of the link
+tie-is : (s : Text) (ix names : List ℕ) (e : ℕ) → tieCode (linkOf s ix names e) ≡ tiedBy ix names e
+unfolding linkOf tiedBy relatedTo citedAt tieCode citedCode pick
+tie-is s ix names e = go (eqb (colOf ix e 4) 0) (eqb (colOf ix e 7) 0) (eqb (citesBy names e) 0) (ltb 32 (citesBy names e)) (eqb (colOf ix e 5) 0)
+  where
+    its : Bool → Link
+    its v = Related (record {
+      from = pick v (Private e) (Domain (domainAt s (colOf ix e 5)) (numberAt s names (pick (eqb (colOf ix e 6) 0) (baseAt s ix e) (colOf ix e 6))));
+      to = citedAt s ix names (citesBy names e - 1) (colOf ix e 10) (colOf ix e 9);
+      offset = offsetAt s ix names (colOf ix e 11);
+    })
+
+    go : (a b c d v : Bool) → tieCode (pick a Unrelated (pick b Unrelated (pick c Unrelated (pick d Unrelated (its v))))) ≡ pick a 0 (pick b 0 (pick c 0 (pick d 0 (pick v 2 1))))
+    go true b c d v = refl
+    go false true c d v = refl
+    go false false true d v = refl
+    go false false false true v = refl
+    go false false false false true = refl
+    go false false false false false = refl
+
 -- two numbers
 both : (l : List ℕ) → length l ≡ 2 → l ≡ getD l 0 0 ∷ getD l 1 0 ∷ []
 both [] h = absurd (omega arith)
@@ -163,10 +132,10 @@ both (x ∷ y ∷ z ∷ l) h = absurd (omega arith)
 module _ (s : Text) (ix names b : List ℕ) (t : Table) where
   -- ---- a file's row
   module _ (f at : ℕ) (h : f < t .files) (ea : at ≡ placeOf b 0 f) {e : ℕ} (ee : e ≡ entryOf (manifestOf s ix) (pathAt b at))
-      {l : Link} (el : l ≡ linkOf s ix names e) {tie : ℕ} (et : tie ≡ tieCode l)
+      {tie : ℕ} (et : tie ≡ tiedBy ix names e)
       {m : Machine} (em : m ≡ baseOf s ix names e) {k : ℕ} (ek : k ≡ m .0)
       {d : Head} (ed : d ≡ headAt b at) {c : ℕ} (ec : c ≡ flag (d .container)) {a : ℕ} (eq : a ≡ d .claim)
-      {r : Bool} (er : r ≡ recordedIn s ix names b t f) {v : ℕ} (ev : v ≡ flag r) where
+      {v : ℕ} (ev : v ≡ flag (recordedIn s ix names b t f)) where
     entry-is : e ≡ entryFor s ix names b t f
     unfolding entryFor
     entry-is = ee ∙ ap (λ (p : ℕ). entryOf (manifestOf s ix) (pathAt b p)) ea
@@ -178,11 +147,11 @@ module _ (s : Text) (ix names b : List ℕ) (t : Table) where
     unfolding fileRow
     file-made =
         (λ i. entry-is i
-        ∷ (et ∙ ap tieCode (el ∙ ap (linkOf s ix names) entry-is)) i
+        ∷ (et ∙ sym (tie-is s ix names e) ∙ ap (λ (k : ℕ). tieCode (linkOf s ix names k)) entry-is) i
         ∷ (ek ∙ ap (λ (x : Machine). x .0) (em ∙ ap (baseOf s ix names) entry-is)) i
         ∷ (ec ∙ ap (λ (x : Head). flag (x .container)) head-is) i
         ∷ (eq ∙ ap (λ (x : Head). x .claim) head-is) i
-        ∷ (ev ∙ ap flag er) i
+        ∷ ev i
         ∷ [])
         ∙ sym (row-here (t .files) 6 (fileRow s ix names b t) f h)
 
@@ -271,9 +240,9 @@ first-most d p (a ∷ l) k h = go (p a) (first-most d p l (suc k) (omega arith))
     go true q = omega arith
     go false q = q
 
-pub few-names : (names : List ℕ) → length names ≡ 32 → countIn names ≤ 32
+pub few-names : (names : List ℕ) → length names ≡ 96 → countIn names ≤ 32
 unfolding countIn
-few-names names h = first-most 32 (λ q. eqb q 0) names 0 (omega arith)
+few-names names h = first-most 32 (λ q. eqb q 0) (take 32 names) 0 (omega (arith, length-take-le 32 names (omega arith)))
 
 -- ---- 32 places
 pub places-length : (b : List ℕ) (n : ℕ) {places : List ℕ} → places ≡ filePlaces b n → length places ≡ 32

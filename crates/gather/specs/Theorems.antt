@@ -20,7 +20,7 @@ use Rattle.sheet.specs.Accepted.{Accepted, accepted, source-of}
 use Rattle.sheet.specs.declared.Table.{Table}
 use Rattle.sheet.specs.declared.Sheet.the-variants.{Listed}
 use Rattle.index.specs.Index.{listed}
-use Rattle.named.specs.Named.{nameTable}
+use Rattle.finds.specs.Finds.{lookups}
 use Rattle.meant.specs.Meant.{baseOf, ownedOf, partOf, linkOf}
 use Rattle.meant.specs.Told.{Tells}
 use Rattle.merged.specs.Facts.{Filed, filed, no-file, noSource, partsOf, said, tieBy, givenBy, fileFact, fileFacts, sourceFact, factsOf}
@@ -38,33 +38,33 @@ use Rattle.gather.specs.laws.Said.{entry-found, base-said, link-said, ow
 
 module _ {s : Text} {ix : List ℕ} {w : Meaning} (k : Tells s ix w) {b : List ℕ} {t : Table} (a : Accepted b t) where
   abbrev table : List ℕ
-  table = gatheredIn s ix (nameTable s ix) b t
+  table = gatheredIn s ix (lookups s ix) b t
 
   -- file f of the sheet
   abbrev here : ℕ → Filed
   here f = getD (map filed (filesOf (a .rs))) f no-file
 
   -- its entry
-  entry-right : (f : ℕ) → f < t .files → entryFor s ix (nameTable s ix) b t f ≡ entryBy w (here f .path)
+  entry-right : (f : ℕ) → f < t .files → entryFor s ix (lookups s ix) b t f ≡ entryBy w (here f .path)
   unfolding entryFor entryBy
   entry-right f h = k .entry-told (pathAt b (placeOf b 0 f)) ∙ ap (λ (v : Filed). entryBy w (v .path)) (sym (file-held a f h))
 
   -- ---- a file
   module _ (f : ℕ) (h : f < t .files) where
-    number : (j : ℕ) → j < 6 → fileNumber table f j ≡ getD (fileRow s ix (nameTable s ix) b t f) j 0
-    number j l = file-number s ix (nameTable s ix) b t f j h (a .few-files) l
+    number : (j : ℕ) → j < 6 → fileNumber table f j ≡ getD (fileRow s ix (lookups s ix) b t f) j 0
+    number j l = file-number s ix (lookups s ix) b t f j h (a .few-files) l
 
     tie-is : tieOf (fileNumber table f 1) ≡ tieBy (said w (here f) .link)
     unfolding fileRow said
     tie-is =
         ap tieOf (number 1 (omega arith)) ∙ tie-right _
-        ∙ ap tieBy (ap (linkOf s ix (nameTable s ix)) (entry-right f h) ∙ link-said k _ (entry-found w (here f .path)))
+        ∙ ap tieBy (ap (linkOf s ix (lookups s ix)) (entry-right f h) ∙ link-said k _ (entry-found w (here f .path)))
 
     base-is : _≡_ {A = Machine} (record { 0 = fileNumber table f 2 }) (said w (here f) .base)
     unfolding fileRow said
     base-is =
         (λ i. record { 0 = number 2 (omega arith) i })
-        ∙ ap (baseOf s ix (nameTable s ix)) (entry-right f h) ∙ base-said k _ (entry-found w (here f .path))
+        ∙ ap (baseOf s ix (lookups s ix)) (entry-right f h) ∙ base-said k _ (entry-found w (here f .path))
 
     pub file-right : fileBy table f ≡ fileFact w (partsOf (a .rs)) f (here f)
     unfolding fileBy fileFact fileRow
@@ -73,7 +73,7 @@ module _ {s : Text} {ix : List ℕ} {w : Meaning} (k : Tells s ix w) {b : List �
         let e3 : isSet (fileNumber table f 3) ≡ here f .container =
         ap isSet (number 3 (omega arith)) ∙ flag-right _ ∙ ap (λ (v : Filed). v .container) (sym (file-held a f h)) in
         let e4 : fileNumber table f 4 ≡ here f .claim = number 4 (omega arith) ∙ ap (λ (v : Filed). v .claim) (sym (file-held a f h)) in
-        let e5 = ap isSet (number 5 (omega arith)) ∙ flag-right _ ∙ recorded-held a s ix (nameTable s ix) f in
+        let e5 = ap isSet (number 5 (omega arith)) ∙ flag-right _ ∙ recorded-held a s ix (lookups s ix) f in
         λ i. record { entry = e0 i; tie = tie-is i; base = base-is i; container = e3 i; claim = e4 i; recorded = e5 i }
 
   -- ---- a source
@@ -84,20 +84,20 @@ module _ {s : Text} {ix : List ℕ} {w : Meaning} (k : Tells s ix w) {b : List �
     given-is : givenOf (sourceNumber table j 2) (sourceNumber table j 3) ≡ givenBy (said w (here (read .file .0)) .owns) (read .id)
     unfolding sourceRow said
     given-is =
-        let n2 = source-number s ix (nameTable s ix) b t j 2 h (a .few-sources) (omega arith) in
-        let n3 = source-number s ix (nameTable s ix) b t j 3 h (a .few-sources) (omega arith) in
+        let n2 = source-number s ix (lookups s ix) b t j 2 h (a .few-sources) (omega arith) in
+        let n3 = source-number s ix (lookups s ix) b t j 3 h (a .few-sources) (omega arith) in
         let e = entry-right (read .file .0) (source-below a j h) in
         let v = entry-found w (here (read .file .0) .path) in
         (λ i. givenOf (n2 i) (n3 i))
-        ∙ ap (λ (n : ℕ). givenIn (ownedCode (ownedOf s ix (nameTable s ix) n) (partOf s ix (nameTable s ix) n (read .id)))) e
+        ∙ ap (λ (n : ℕ). givenIn (ownedCode (ownedOf s ix (lookups s ix) n) (partOf s ix (lookups s ix) n (read .id)))) e
         ∙ (λ i. givenIn (ownedCode (owned-said k _ v i) (part-said k _ v (read .id) i)))
         ∙ given-right _ (read .id)
 
     pub source-right : sourceBy table j ≡ sourceFact w (partsOf (a .rs)) (getD (sourcesOf (a .rs)) j noSource)
     unfolding sourceBy sourceFact sourceRow
     source-right =
-        let n0 = source-number s ix (nameTable s ix) b t j 0 h (a .few-sources) (omega arith) in
-        let n1 = source-number s ix (nameTable s ix) b t j 1 h (a .few-sources) (omega arith) in
+        let n0 = source-number s ix (lookups s ix) b t j 0 h (a .few-sources) (omega arith) in
+        let n1 = source-number s ix (lookups s ix) b t j 1 h (a .few-sources) (omega arith) in
         let e : sourceBy table j ≡ sourceFact w (partsOf (a .rs)) read = λ i. record { file = n0 i; id = n1 i; given = given-is i } in
         e ∙ ap (sourceFact w (partsOf (a .rs))) (source-of a j noSource h)
 
@@ -147,12 +147,12 @@ same-records e = cc
 
 -- THE TABLE IS THE FACTS
 pub facts-are : (s : Text) (ix b : List ℕ) (w : Meaning) (rs : List Record) → Tells s ix w → recordsOf b ≡ records rs
-    → factsBy (gathered s ix (nameTable s ix) b) ≡ factsOf w (partsOf rs)
+    → factsBy (gathered s ix (lookups s ix) b) ≡ factsOf w (partsOf rs)
 unfolding gathered gatheredBy told
 facts-are s ix b w rs k e =
     let r : readOf b ≡ Listed (tableOf rs) = read-told b ∙ ap told e in
     let a : Accepted b (tableOf rs) = accepted b (tableOf rs) r in
     let q : a .rs ≡ rs = same-records (sym (a .sheet) ∙ sheet-is b rs e) in
-    ap (λ (x : _). factsBy (gatheredBy s ix (nameTable s ix) b x)) r
+    ap (λ (x : _). factsBy (gatheredBy s ix (lookups s ix) b x)) r
     ∙ facts-held k a
     ∙ ap (λ (l : List Record). factsOf w (partsOf l)) q

@@ -1,22 +1,23 @@
 // What is known of files and sources, gathered from a sheet and a manifest's tables.
 ghost use mathlib.Core.Path.{_≡_};
-ghost use mathlib.Core.List.{List, [], _∷_};
-ghost use Prim.Native.Nat.{ℕ, _+_, _*_, _<_, _≤_};
+ghost use mathlib.Core.List.{[], _∷_};
+ghost use Prim.Native.Nat.{_+_, _*_, _<_, _≤_};
 ghost use lib.ListN.{length};
-ghost use Rattle.bits.specs.Bits.{number};
+ghost use Rattle.records.specs.Layout.{bytesAt};
 ghost use Rattle.records.specs.Readers.{pathAt, sourceAt, snapshotAt};
 ghost use Rattle.sheet.specs.Places.{placeOf};
 ghost use Rattle.sheet.specs.Sheets.{readOf};
-ghost use Rattle.index.specs.Index.{rows, entriesIn, manifestOf};
+ghost use Rattle.json.specs.Tree.{same};
+ghost use Rattle.manifest.specs.Rows.{holds};
+ghost use Rattle.index.specs.Index.{textCell, rows, entriesIn, manifestOf};
 ghost use Rattle.index.specs.laws.Put.{Put};
 ghost use Rattle.finds.specs.Finds.{entryOf};
+ghost use Rattle.named.specs.Prints.{pathPrints};
 ghost use Rattle.named.specs.Named.{countIn};
 ghost use Rattle.meant.specs.Meant.{ownedOf, partOf};
-ghost use Rattle.gather.specs.Gathered.{citedCode, tieCode, partCode, ownedCode, flag as flagOf, rowIn, recordedIn, fileRow, sourceRow, gatheredIn, gathered};
-ghost use Rattle.gather.specs.laws.Near.{Near, Cites, Known};
+ghost use Rattle.gather.specs.Gathered.{partCode, ownedCode, flag as flagOf, rowIn, fileRow, sourceRow, gatheredIn, gathered};
+ghost use Rattle.gather.specs.laws.Near.{Near, Cites, Known, Recorded};
 use bits::Cursor;
-use manifest::Cited;
-use manifest::Link;
 use meant::Owned;
 use meant::Part;
 use sheet::Sheet;
@@ -50,53 +51,67 @@ fn flag(c: bool) -> u32
     if c { 1 } else { 0 }
 }
 
-// The number of what a file's clocks are cited from: 1 tied, 2 pinned.
-fn cited_code(c: Cited) -> u32
-    ensures { λ r. ⌜ r ≡ citedCode c ⌝ }
+// The eight bytes from a bit position on are put into a path, from byte i on: one reading of the sheet serves all eight.
+fn put_word(b: &[u8], at: usize, path: &mut [u8; 256], i: usize)
+    requires { ⌜ (at < 0x2000000000) × (length (now path) ≡ 256) × (i + 8 ≤ 256) ⌝ }
+    ensures { λ _. ⌜ Put (now (path .entry)) i (bytesAt (now (b .entry)) at 8) (now (path .exit)) ⌝ }
 {
-    match c {
-        Cited::Private(i) => 2,
-        Cited::Domain(d, m) => 1,
-    }
-}
-
-// The number of a file's tie: 0 untied, 1 tied, 2 pinned.
-fn tie_code(l: Link) -> u32
-    ensures { λ r. ⌜ r ≡ tieCode l ⌝ }
-{
-    match l {
-        Link::Unrelated => 0,
-        Link::Related(r) => {
-            let from = r.from;
-            cited_code(from)
-        }
-    }
-}
-
-// The byte at a bit position.
-fn byte(b: &[u8], at: usize) -> u8
-    requires { ⌜ at < 0x2000000000 ⌝ }
-    ensures { λ r. ⌜ r ≡ number (now (b .entry)) at 8 ⌝ }
-{
-    let x = Cursor { at }.take(b, 8);
+    let x = Cursor { at }.take(b, 64);
     let v = x.value;
-    v as u8
+    path[i] = (v >> 56) as u8;
+    path[i + 1] = ((v >> 48) % 256) as u8;
+    path[i + 2] = ((v >> 40) % 256) as u8;
+    path[i + 3] = ((v >> 32) % 256) as u8;
+    path[i + 4] = ((v >> 24) % 256) as u8;
+    path[i + 5] = ((v >> 16) % 256) as u8;
+    path[i + 6] = ((v >> 8) % 256) as u8;
+    path[i + 7] = (v % 256) as u8;
+}
+
+// A path stands at a position, and it is the given one.
+fn is_path(s: &[u8], at: usize, path: &[u8]) -> bool
+    ensures { λ r. ⌜ r ≡ holds (same (now (path .entry))) (textCell (now (s .entry)) at) ⌝ }
+{
+    if at == 0 {
+        return false;
+    }
+    index::text_is(s, at, path)
+}
+
+// Which entry has this path; 32 if none has. Only a path that has its print is compared with it.
+fn listing(s: &[u8], ix: &[usize; 2470], prints: &[u32; 32], path: &[u8]) -> usize
+    requires { ⌜ now prints ≡ pathPrints (now s) (now ix) ⌝ }
+    ensures { λ r. ⌜ r ≡ entryOf (manifestOf (now (s .entry)) (now (ix .entry))) (now (path .entry)) ⌝ }
+{
+    let print = named::print_of(path);
+    let n = meant::count(ix);
+    let mut i: usize = 0;
+    while i < n {
+        if prints[i] == print {
+            if is_path(s, index::col(ix, i, 0), path) {
+                return i;
+            }
+        }
+        i += 1;
+    }
+    32
 }
 
 // Which entry lists the file at a bit position; 32 if none does.
-fn path_entry(s: &[u8], ix: &[usize; 2470], b: &[u8], at: usize) -> usize
-    requires { ⌜ at < 0x1000000000 ⌝ }
+fn path_entry(s: &[u8], ix: &[usize; 2470], prints: &[u32; 32], b: &[u8], at: usize) -> usize
+    requires { ⌜ (at < 0x1000000000) × (now prints ≡ pathPrints (now s) (now ix)) ⌝ }
     ensures { λ r. ⌜ (r ≡ entryOf (manifestOf (now (s .entry)) (now (ix .entry))) (pathAt (now (b .entry)) at)) × (r ≤ 32) ⌝ }
 {
     let h = records::head_at(b, at);
     let n = long(h.length);
-    let mut path = [0u8; 255];
+    let mut path = [0u8; 256];
     let mut i: usize = 0;
     while i < n {
-        path[i] = byte(b, at + 15 + 8 * i);
-        i += 1;
+        // The last word may reach past the path's end: those bytes are not looked at.
+        put_word(b, at + 15 + 8 * i, &mut path, i);
+        i += 8;
     }
-    meant::entry(s, ix, &path[0..n])
+    listing(s, ix, prints, &path[0..n])
 }
 
 // The file of the source that snapshot i is by.
@@ -109,47 +124,47 @@ fn snapshot_file(b: &[u8], t: Table, i: usize) -> usize
     long(x.file.0)
 }
 
-// One of the snapshots is by a source of file f.
-fn recorded(b: &[u8], t: Table, f: usize) -> bool
+// For each file number, 1 if one of the snapshots is by a source of that file, else 0: one pass serves all files.
+fn recorded_files(b: &[u8], t: Table) -> [u8; 32]
     requires { ⌜ Near t ⌝ }
-    ensures { λ r. ⌜ ((s ix names : List ℕ) → r ≡ recordedIn s ix names (now (b .entry)) t f) ⌝ }
+    ensures { λ r. ⌜ Recorded (now (b .entry)) t r ⌝ }
 {
     let n = t.snapshots.count;
+    let mut out = [0u8; 32];
     let mut i: usize = 0;
     while i < n {
-        if snapshot_file(b, t, i) == f {
-            return true;
-        }
+        out[snapshot_file(b, t, i)] = 1;
         i += 1;
     }
-    false
+    out
 }
 
 // The numbers of file f, which stands at a bit position; zeros past the last file.
 fn file_row(
     s: &[u8],
     ix: &[usize; 2470],
-    names: &[usize; 32],
+    lookups: &[usize; 96],
     b: &[u8],
     t: Table,
     f: usize,
     at: usize,
+    prints: &[u32; 32],
+    recorded: &[u8; 32],
 ) -> [u32; 6]
-    requires { ⌜ (Near t) × (at < 0x1000000000) × (f < t .files → at ≡ placeOf (now b) 0 f) ⌝ }
-    ensures { λ r. ⌜ r ≡ rowIn (t .files) 6 (fileRow (now (s .entry)) (now (ix .entry)) (now (names .entry)) (now (b .entry)) t) f ⌝ }
+    requires { ⌜ (Near t) × (at < 0x1000000000) × (f < t .files → at ≡ placeOf (now b) 0 f) × (Recorded (now b) t (now recorded)) × (now prints ≡ pathPrints (now s) (now ix)) ⌝ }
+    ensures { λ r. ⌜ r ≡ rowIn (t .files) 6 (fileRow (now (s .entry)) (now (ix .entry)) (now (lookups .entry)) (now (b .entry)) t) f ⌝ }
 {
     if t.files <= f {
         return [0u32; 6];
     }
-    let e = path_entry(s, ix, b, at);
-    let link = meant::link(s, ix, names, e);
-    let tie = tie_code(link);
-    let base = meant::base(s, ix, names, e);
+    let e = path_entry(s, ix, prints, b, at);
+    let tie = meant::tie(ix, lookups, e);
+    let base = meant::base(s, ix, lookups, e);
     let machine = small(base.0);
     let h = records::head_at(b, at);
     let container = flag(h.container);
     let claim = small(h.claim);
-    let seen = flag(recorded(b, t, f));
+    let seen = small(recorded[f]);
     [e as u32, tie, machine, container, claim, seen]
 }
 
@@ -164,13 +179,13 @@ fn part_code(p: Part) -> [u32; 2]
 }
 
 // What entry e says of the machine of an id.
-fn owned_code(s: &[u8], ix: &[usize; 2470], names: &[usize; 32], e: usize, id: u32) -> [u32; 2]
-    ensures { λ r. ⌜ r ≡ ownedCode (ownedOf (now (s .entry)) (now (ix .entry)) (now (names .entry)) e) (partOf (now (s .entry)) (now (ix .entry)) (now (names .entry)) e id) ⌝ }
+fn owned_code(s: &[u8], ix: &[usize; 2470], lookups: &[usize; 96], e: usize, id: u32) -> [u32; 2]
+    ensures { λ r. ⌜ r ≡ ownedCode (ownedOf (now (s .entry)) (now (ix .entry)) (now (lookups .entry)) e) (partOf (now (s .entry)) (now (ix .entry)) (now (lookups .entry)) e id) ⌝ }
 {
-    match meant::owned_of(s, ix, names, e) {
+    match meant::owned_of(s, ix, lookups, e) {
         Owned::Nobody => [0, 0],
         Owned::Whole(m) => [1, small(m.0)],
-        Owned::Split => part_code(meant::part_of(s, ix, names, e, id)),
+        Owned::Split => part_code(meant::part_of(s, ix, lookups, e, id)),
     }
 }
 
@@ -178,14 +193,14 @@ fn owned_code(s: &[u8], ix: &[usize; 2470], names: &[usize; 32], e: usize, id: u
 fn source_row(
     s: &[u8],
     ix: &[usize; 2470],
-    names: &[usize; 32],
+    lookups: &[usize; 96],
     b: &[u8],
     t: Table,
     j: usize,
     out: &[u32; 324],
 ) -> [u32; 4]
-    requires { ⌜ (Near t) × (Cites (now b) t) × (Known (now s) (now ix) (now names) (now b) t (now out)) ⌝ }
-    ensures { λ r. ⌜ r ≡ rowIn (t .sources .count) 4 (sourceRow (now (s .entry)) (now (ix .entry)) (now (names .entry)) (now (b .entry)) t) j ⌝ }
+    requires { ⌜ (Near t) × (Cites (now b) t) × (Known (now s) (now ix) (now lookups) (now b) t (now out)) ⌝ }
+    ensures { λ r. ⌜ r ≡ rowIn (t .sources .count) 4 (sourceRow (now (s .entry)) (now (ix .entry)) (now (lookups .entry)) (now (b .entry)) t) j ⌝ }
 {
     if t.sources.count <= j {
         return [0u32; 4];
@@ -194,7 +209,7 @@ fn source_row(
     let f = x.file.0;
     let id = x.id;
     let e = wide(out[4 + 6 * long(f)]);
-    let said = owned_code(s, ix, names, e, id);
+    let said = owned_code(s, ix, lookups, e, id);
     [small(f), id, said[0], said[1]]
 }
 
@@ -214,18 +229,20 @@ fn store(out: &mut [u32; 324], base: usize, row: &[u32])
 fn put_files(
     s: &[u8],
     ix: &[usize; 2470],
-    names: &[usize; 32],
+    lookups: &[usize; 96],
     b: &[u8],
     t: Table,
     out: &mut [u32; 324],
 )
     requires { ⌜ (Near t) × (length (now out) ≡ 324) ⌝ }
-    ensures { λ _. ⌜ Put (now (out .entry)) 4 (rows (rowIn (t .files) 6 (fileRow (now (s .entry)) (now (ix .entry)) (now (names .entry)) (now (b .entry)) t)) 32) (now (out .exit)) ⌝ }
+    ensures { λ _. ⌜ Put (now (out .entry)) 4 (rows (rowIn (t .files) 6 (fileRow (now (s .entry)) (now (ix .entry)) (now (lookups .entry)) (now (b .entry)) t)) 32) (now (out .exit)) ⌝ }
 {
     let places = sheet::file_places(b, t.files);
+    let prints = named::path_prints(s, ix);
+    let recorded = recorded_files(b, t);
     let mut f: usize = 0;
     while f < 32 {
-        let row = file_row(s, ix, names, b, t, f, wide(places[f]));
+        let row = file_row(s, ix, lookups, b, t, f, wide(places[f]), &prints, &recorded);
         store(out, 4 + 6 * f, &row);
         f += 1;
     }
@@ -235,31 +252,31 @@ fn put_files(
 fn put_sources(
     s: &[u8],
     ix: &[usize; 2470],
-    names: &[usize; 32],
+    lookups: &[usize; 96],
     b: &[u8],
     t: Table,
     out: &mut [u32; 324],
 )
-    requires { ⌜ (Near t) × (length (now out) ≡ 324) × (Cites (now b) t) × (Known (now s) (now ix) (now names) (now b) t (now out)) ⌝ }
-    ensures { λ _. ⌜ Put (now (out .entry)) 196 (rows (rowIn (t .sources .count) 4 (sourceRow (now (s .entry)) (now (ix .entry)) (now (names .entry)) (now (b .entry)) t)) 32) (now (out .exit)) ⌝ }
+    requires { ⌜ (Near t) × (length (now out) ≡ 324) × (Cites (now b) t) × (Known (now s) (now ix) (now lookups) (now b) t (now out)) ⌝ }
+    ensures { λ _. ⌜ Put (now (out .entry)) 196 (rows (rowIn (t .sources .count) 4 (sourceRow (now (s .entry)) (now (ix .entry)) (now (lookups .entry)) (now (b .entry)) t)) 32) (now (out .exit)) ⌝ }
 {
     let mut j: usize = 0;
     while j < 32 {
-        let row = source_row(s, ix, names, b, t, j, out);
+        let row = source_row(s, ix, lookups, b, t, j, out);
         store(out, 196 + 4 * j, &row);
         j += 1;
     }
 }
 
 // The first numbers of the table: how many files, sources, entries and names there are.
-fn head_row(ix: &[usize; 2470], names: &[usize; 32], t: Table) -> [u32; 4]
+fn head_row(ix: &[usize; 2470], lookups: &[usize; 96], t: Table) -> [u32; 4]
     requires { ⌜ Near t ⌝ }
-    ensures { λ r. ⌜ r ≡ t .files ∷ t .sources .count ∷ entriesIn (now (ix .entry)) ∷ countIn (now (names .entry)) ∷ [] ⌝ }
+    ensures { λ r. ⌜ r ≡ t .files ∷ t .sources .count ∷ entriesIn (now (ix .entry)) ∷ countIn (now (lookups .entry)) ∷ [] ⌝ }
 {
-    // A slice tells how many names it has: the count is at most 32.
-    let table: &[usize] = names;
+    // A slice tells its length: the count of names is at most 32.
+    let table: &[usize] = lookups;
     let entries = meant::count(ix);
-    let machines = meant::named(names);
+    let machines = meant::named(lookups);
     [
         t.files as u32,
         t.sources.count as u32,
@@ -269,32 +286,39 @@ fn head_row(ix: &[usize; 2470], names: &[usize; 32], t: Table) -> [u32; 4]
 }
 
 // The whole table of an accepted sheet.
-fn fill(s: &[u8], ix: &[usize; 2470], names: &[usize; 32], b: &[u8], t: Table, out: &mut [u32; 324])
+fn fill(
+    s: &[u8],
+    ix: &[usize; 2470],
+    lookups: &[usize; 96],
+    b: &[u8],
+    t: Table,
+    out: &mut [u32; 324],
+)
     requires { ⌜ (Near t) × (length (now out) ≡ 324) × (Cites (now b) t) ⌝ }
-    ensures { λ _. ⌜ now (out .exit) ≡ gatheredIn (now (s .entry)) (now (ix .entry)) (now (names .entry)) (now (b .entry)) t ⌝ }
+    ensures { λ _. ⌜ now (out .exit) ≡ gatheredIn (now (s .entry)) (now (ix .entry)) (now (lookups .entry)) (now (b .entry)) t ⌝ }
 {
-    let row = head_row(ix, names, t);
+    let row = head_row(ix, lookups, t);
     store(out, 0, &row);
-    put_files(s, ix, names, b, t, out);
-    put_sources(s, ix, names, b, t, out);
+    put_files(s, ix, lookups, b, t, out);
+    put_sources(s, ix, lookups, b, t, out);
 }
 
 // Reads the sheet, and writes the table of what is known of its files and sources; zeros for a refused sheet.
 pub fn gather(
     s: &[u8],
     ix: &[usize; 2470],
-    names: &[usize; 32],
+    lookups: &[usize; 96],
     b: &[u8],
     t: &mut [u32; 324],
 ) -> Sheet
-    ensures { λ r. ⌜ (r ≡ readOf (now (b .entry))) × (now (t .exit) ≡ gathered (now (s .entry)) (now (ix .entry)) (now (names .entry)) (now (b .entry))) ⌝ }
+    ensures { λ r. ⌜ (r ≡ readOf (now (b .entry))) × (now (t .exit) ≡ gathered (now (s .entry)) (now (ix .entry)) (now (lookups .entry)) (now (b .entry))) ⌝ }
 {
     let zeros: [u32; 324] = [0; 324];
     *t = zeros;
     match sheet::read(b) {
         Sheet::Refused(k) => Sheet::Refused(k),
         Sheet::Listed(table) => {
-            fill(s, ix, names, b, table, t);
+            fill(s, ix, lookups, b, table, t);
             Sheet::Listed(table)
         }
     }

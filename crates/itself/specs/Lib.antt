@@ -1,3 +1,3 @@
--- Refusal 24: a clock related to itself. In reading order.
+-- The two clocks that an entry relates. In reading order.
 pub mod Itself
 pub mod laws

@@ -19,7 +19,7 @@ use Rattle.sheet.specs.Accepted.{Accepted, accepted}
 use Rattle.sheet.specs.declared.Table.{Table}
 use Rattle.sheet.specs.declared.Sheet.the-variants.{Refused}
 use Rattle.index.specs.Index.{manifestOf}
-use Rattle.reader.specs.Reader.{tableOf, namesOf, meaningBy}
+use Rattle.reader.specs.Reader.{tableOf, lookupsOf, meaningBy}
 use Rattle.reader.specs.Theorems.{table-means}
 use Rattle.merged.specs.Facts.{Parts, partsOf, Facts, sourceFact, factsOf}
 use Rattle.merged.specs.Machines.{machineCount, machineOf, machinesOf}
@@ -91,7 +91,7 @@ module _ {s : Text} {b ix names t : List ℕ} {p : Table} (r : Read s b ix names
   abbrev list : Listing b p
   list = listed-so b (r .sheet)
 
-  known-is : t ≡ gathered s (tableOf s) (namesOf s) b
+  known-is : t ≡ gathered s (tableOf s) (lookupsOf s) b
   known-is = r .known ∙ (λ i. gathered s (r .index i) (r .names-are i) b)
 
   refusal-is : firstOf checks (factsBy t) ≡ firstOf checks (factsOf (meaningOf s) (partsOf (list .rs)))

@@ -13,7 +13,7 @@ use Rattle.records.specs.declared.Event.{Event}
 use Rattle.sheet.specs.Sheets.{readOf}
 use Rattle.sheet.specs.declared.Table.{Table}
 use Rattle.sheet.specs.declared.Sheet.the-variants.{Listed}
-use Rattle.reader.specs.Reader.{tableOf, namesOf}
+use Rattle.reader.specs.Reader.{tableOf, lookupsOf}
 use Rattle.meant.specs.Meant.{timelineOf}
 use Rattle.graphs.specs.Graphs.{World}
 use Rattle.clocks.specs.declared.Answer.{Answer as EventAnswer}
@@ -32,7 +32,7 @@ use Rattle.lines.specs.Lines.{clockBy, linksBy, eventsAt}
 pub record Read (s : Text) (b ix names t : List ℕ) (p : Table) : Type 0 where
   pub manifest : refusalOf s ≡ 0
   pub index : ix ≡ tableOf s
-  pub names-are : names ≡ namesOf s
+  pub names-are : names ≡ lookupsOf s
   pub sheet : readOf b ≡ Listed p
   pub known : t ≡ gathered s ix names b
 

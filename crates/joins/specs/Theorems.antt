@@ -16,7 +16,7 @@ use Rattle.records.specs.Layout.{Record}
 use Rattle.sheet.specs.Sheets.{records, tableOf as placesOf}
 use Rattle.sheet.specs.Lists.{filesOf, snapshotsOf, eventsOf}
 use Rattle.index.specs.Index.{manifestOf}
-use Rattle.reader.specs.Reader.{tableOf, namesOf, meaningBy}
+use Rattle.reader.specs.Reader.{tableOf, lookupsOf, meaningBy}
 use Rattle.reader.specs.Theorems.{table-means, table-accepted}
 use Rattle.meant.specs.Meant.{timelineOf}
 use Rattle.meant.specs.Told.{Tells}
@@ -63,7 +63,7 @@ files-long w rs = files-mapped (filesOf rs) ∙ sym (counted 0 (map filed (files
 module _ (s : Text) (b : List ℕ) (rs : List Record) (manifest : refusalOf s ≡ 0) (sheet : recordsOf b ≡ records rs) where
   -- the table of what is known
   abbrev pub known : List ℕ
-  known = gathered s (tableOf s) (namesOf s) b
+  known = gathered s (tableOf s) (lookupsOf s) b
 
   accepted : refusal-5-or-later (one (manifestOf s (tableOf s))) ≡ 0
   accepted = table-accepted s manifest
@@ -77,7 +77,7 @@ module _ (s : Text) (b : List ℕ) (rs : List Record) (manifest : refusalOf s �
 
   -- for any meaning that the tables tell
   facts-for : (w : Meaning) → Tells s (tableOf s) w → factsBy known ≡ factsOf w (partsOf rs)
-  unfolding namesOf
+  unfolding lookupsOf
   facts-for w t = facts-are s (tableOf s) b w rs t sheet
 
   few-tell : length (names-in (manifestOf s (tableOf s))) ≤ 32 → Tells s (tableOf s) said
@@ -117,18 +117,18 @@ module _ (s : Text) (b : List ℕ) (rs : List Record) (manifest : refusalOf s �
     facts-told = facts-for (meaningOf s) tells
 
     -- the world
-    trace-told : timelineOf s (tableOf s) (namesOf s) ≡ meaningOf s .trace
-    unfolding namesOf
+    trace-told : timelineOf s (tableOf s) (lookupsOf s) ≡ meaningOf s .trace
+    unfolding lookupsOf
     trace-told = tells .timeline-told
 
-    links-told : linksBy s (tableOf s) (namesOf s) known (machineTable known) b (placesOf rs .snapshots .at) (placesOf rs .snapshots .count)
+    links-told : linksBy s (tableOf s) (lookupsOf s) known (machineTable known) b (placesOf rs .snapshots .at) (placesOf rs .snapshots .count)
         ≡ flat (λ (l : Listed). linkFrom (factsOf (meaningOf s) (partsOf rs)) (l .link)) (meaningOf s .listed) ++ map (linkOf (factsOf (meaningOf s) (partsOf rs))) (snapshotsOf rs)
-    unfolding linksBy namesOf
+    unfolding linksBy lookupsOf
     links-told =
         (λ i. entries-told s (tableOf s) known (meaningOf s) tells i ++ snapshots-told known b rs sheet i)
         ∙ ap (λ (k : Facts). flat (λ (l : Listed). linkFrom k (l .link)) (meaningOf s .listed) ++ map (linkOf k) (snapshotsOf rs)) facts-told
 
-    pub world-told : worldBy s b (tableOf s) (namesOf s) known (placesOf rs) ≡ worldOf (meaningOf s) (partsOf rs)
+    pub world-told : worldBy s b (tableOf s) (lookupsOf s) known (placesOf rs) ≡ worldOf (meaningOf s) (partsOf rs)
     unfolding worldBy worldOf
     world-told = λ i. record {
       machines = machineCount (facts-told i);
@@ -139,7 +139,7 @@ module _ (s : Text) (b : List ℕ) (rs : List Record) (manifest : refusalOf s �
     }
 
     -- each event's answer
-    answers-told : answersBy s b (tableOf s) (namesOf s) known (placesOf rs) ≡ answersIn (meaningOf s) (partsOf rs)
+    answers-told : answersBy s b (tableOf s) (lookupsOf s) known (placesOf rs) ≡ answersIn (meaningOf s) (partsOf rs)
     unfolding answersBy answersIn
     answers-told =
         (λ i. answersOf (world-told i) (map (clockBy known (machineTable known)) (events-told b rs sheet i)) (map (λ e. e .reading) (events-told b rs sheet i)))
@@ -147,7 +147,7 @@ module _ (s : Text) (b : List ℕ) (rs : List Record) (manifest : refusalOf s �
         (map-same (clock-told known) (eventsOf rs) ∙ ap (λ (k : Facts). map (eventClock k) (eventsOf rs)) facts-told)
 
     -- all of it
-    pub accepted-so : (room : Room) → acceptedBy (meaningOf s) (partsOf rs) room ≡ acceptedWith s b (tableOf s) (namesOf s) known (placesOf rs) room
+    pub accepted-so : (room : Room) → acceptedBy (meaningOf s) (partsOf rs) room ≡ acceptedWith s b (tableOf s) (lookupsOf s) known (placesOf rs) room
     unfolding acceptedBy acceptedWith
     accepted-so room = sym (λ i. record {
       answer = Merged (record { files = files-mapped (filesOf rs) i; machines = machineCount (facts-told i); events = length (eventsOf rs); trace = traceOf (facts-told i) (trace-told i) });

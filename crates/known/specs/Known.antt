@@ -10,7 +10,7 @@ use Rattle.sheet.specs.Sheets.{readOf}
 use Rattle.sheet.specs.declared.Table.{Table}
 use Rattle.sheet.specs.declared.Sheet.{Sheet}
 use Rattle.sheet.specs.declared.Sheet.the-variants.{Refused as SheetRefused, Listed}
-use Rattle.reader.specs.Reader.{tableOf, namesOf}
+use Rattle.reader.specs.Reader.{tableOf, lookupsOf}
 use Rattle.meant.specs.Meant.{timelineOf}
 use Rattle.graphs.specs.Links.{Link}
 use Rattle.merged.specs.Machines.{machineCount}
@@ -53,14 +53,14 @@ verdict manifest sheet both given = pick (eqb manifest 0) (verdictBy sheet both 
 module _ (s : Text) (b : List ℕ) where
   -- what is known of the sheet's files and sources
   abbrev pub factTable : List ℕ
-  factTable = gathered s (tableOf s) (namesOf s) b
+  factTable = gathered s (tableOf s) (lookupsOf s) b
 
   -- the correspondences
   abbrev pub linksIn : List Link
-  linksIn = linksBy s (tableOf s) (namesOf s) factTable (machineTable factTable) b (tableIn (readOf b) .snapshots .at) (tableIn (readOf b) .snapshots .count)
+  linksIn = linksBy s (tableOf s) (lookupsOf s) factTable (machineTable factTable) b (tableIn (readOf b) .snapshots .at) (tableIn (readOf b) .snapshots .count)
 
   abbrev pub givenIn : Given
-  givenIn = givenBy s (tableOf s) (namesOf s) factTable (tableIn (readOf b)) (length linksIn)
+  givenIn = givenBy s (tableOf s) (lookupsOf s) factTable (tableIn (readOf b)) (length linksIn)
 
   unfoldable pub told : Told
   told = verdict (refusalOf s) (readOf b) (firstOf checks (factsBy factTable)) givenIn

@@ -43,7 +43,7 @@ fn table_in(sheet: Sheet) -> Table
 fn draw(
     s: &[u8],
     ix: &[usize; 2470],
-    names: &[usize; 32],
+    lookups: &[usize; 96],
     t: &[u32; 324],
     b: &[u8],
     run: Run,
@@ -53,29 +53,29 @@ fn draw(
     y: &mut [i64; 288],
 ) -> usize
     requires { ⌜ run .at < 4294967296 ⌝ }
-    ensures { λ r. ⌜ Drawn (now (s .entry)) (now (ix .entry)) (now (names .entry)) (now (t .entry)) (now (b .entry)) run r (now (a .exit)) (now (x .exit)) (now (c .exit)) (now (y .exit)) ⌝ }
+    ensures { λ r. ⌜ Drawn (now (s .entry)) (now (ix .entry)) (now (lookups .entry)) (now (t .entry)) (now (b .entry)) run r (now (a .exit)) (now (x .exit)) (now (c .exit)) (now (y .exit)) ⌝ }
 {
     let mut each: [usize; 32] = [0; 32];
     checks::machines(t, &mut each);
     let at = run.at as u32;
     let n = run.count;
-    lines::links(s, ix, names, t, &each, b, at, n, a, x, c, y)
+    lines::links(s, ix, lookups, t, &each, b, at, n, a, x, c, y)
 }
 
 // What is given beside the lists.
 fn give(
     s: &[u8],
     ix: &[usize; 2470],
-    names: &[usize; 32],
+    lookups: &[usize; 96],
     t: &[u32; 324],
     table: Table,
     links: usize,
 ) -> Given
-    ensures { λ r. ⌜ r ≡ givenBy (now (s .entry)) (now (ix .entry)) (now (names .entry)) (now (t .entry)) table links ⌝ }
+    ensures { λ r. ⌜ r ≡ givenBy (now (s .entry)) (now (ix .entry)) (now (lookups .entry)) (now (t .entry)) table links ⌝ }
 {
     let mut each: [usize; 32] = [0; 32];
     let count = checks::machines(t, &mut each);
-    let asked = meant::timeline(s, ix, names);
+    let asked = meant::timeline(s, ix, lookups);
     let trace = traced::clock(t, asked);
     let run = table.events;
     let machines = byte(count);
@@ -134,13 +134,13 @@ pub fn read(
     ensures gives { λ _. ⌜ now (y .exit) ≡ padded (pos 0) 288 (map (λ l. l .y) (linksIn (now (s .entry)) (now (b .entry)))) ⌝ }
 {
     let mut ix: [usize; 2470] = [0; 2470];
-    let mut names: [usize; 32] = [0; 32];
-    let manifest = reader::read(s, &mut ix, &mut names);
-    let sheet = gather::gather(s, &ix, &names, b, t);
+    let mut lookups: [usize; 96] = [0; 96];
+    let manifest = reader::read(s, &mut ix, &mut lookups);
+    let sheet = gather::gather(s, &ix, &lookups, b, t);
     let both = checks::refusal(t);
     let table = table_in(sheet);
     let run = table.snapshots;
-    let n = draw(s, &ix, &names, t, b, run, a, x, c, y);
-    let given = give(s, &ix, &names, t, table, n);
+    let n = draw(s, &ix, &lookups, t, b, run, a, x, c, y);
+    let given = give(s, &ix, &lookups, t, table, n);
     tell(manifest, sheet, both, given)
 }

@@ -18,7 +18,7 @@ use Rattle.sheet.specs.Lists.{snapshotsOf, eventsOf}
 use Rattle.sheet.specs.Sheets.{records, tableOf}
 use Rattle.sheet.specs.Accepted.{snapshot-of, event-of}
 use Rattle.index.specs.Index.{listed, entriesIn}
-use Rattle.named.specs.Named.{nameTable}
+use Rattle.finds.specs.Finds.{lookups}
 use Rattle.meant.specs.Meant as meant
 use Rattle.meant.specs.Told.{Tells}
 use Rattle.merged.specs.Machines.{sourcesIn, is-silent, by-id, machineBy, machineOf, machinesOf}
@@ -79,10 +79,10 @@ module _ (t : List ℕ) where
 -- ---- correspondences
 
 -- of the entries: those of the meaning's listed files
-pub entries-told : (s : Text) (ix t : List ℕ) (w : Meaning) → Tells s ix w → entryLinks s ix (nameTable s ix) t ≡ flat (λ l. linkFrom (factsBy t) (l .link)) (w .listed)
+pub entries-told : (s : Text) (ix t : List ℕ) (w : Meaning) → Tells s ix w → entryLinks s ix (lookups s ix) t ≡ flat (λ l. linkFrom (factsBy t) (l .link)) (w .listed)
 unfolding entryLinks
 entries-told s ix t w k =
-    flat-is (λ i. linkFrom (factsBy t) (meant.linkOf s ix (nameTable s ix) i)) (λ (l : Listed). linkFrom (factsBy t) (l .link)) (w .listed) (entriesIn ix)
+    flat-is (λ i. linkFrom (factsBy t) (meant.linkOf s ix (lookups s ix) i)) (λ (l : Listed). linkFrom (factsBy t) (l .link)) (w .listed) (entriesIn ix)
     (k .entries-told) (λ i h d. ap (linkFrom (factsBy t)) (k .link-told h d))
 
 module _ (b : List ℕ) (rs : List Record) (e : recordsOf b ≡ records rs) where

@@ -140,7 +140,7 @@ fn put(
 fn entry_link(
     s: &[u8],
     ix: &[usize; 2470],
-    names: &[usize; 32],
+    lookups: &[usize; 96],
     t: &[u32; 324],
     i: usize,
     a: &mut [u16; 288],
@@ -150,9 +150,9 @@ fn entry_link(
     k: usize,
 ) -> usize
     requires { ⌜ (k < 288) × Sized (now a) (now x) (now c) (now y) ⌝ }
-    ensures { λ r. ⌜ Adds (linkFrom (factsBy (now (t .entry))) (linkOf (now (s .entry)) (now (ix .entry)) (now (names .entry)) i)) k r (now (a .entry)) (now (x .entry)) (now (c .entry)) (now (y .entry)) (now (a .exit)) (now (x .exit)) (now (c .exit)) (now (y .exit)) ⌝ }
+    ensures { λ r. ⌜ Adds (linkFrom (factsBy (now (t .entry))) (linkOf (now (s .entry)) (now (ix .entry)) (now (lookups .entry)) i)) k r (now (a .entry)) (now (x .entry)) (now (c .entry)) (now (y .entry)) (now (a .exit)) (now (x .exit)) (now (c .exit)) (now (y .exit)) ⌝ }
 {
-    match meant::link(s, ix, names, i) {
+    match meant::link(s, ix, lookups, i) {
         Link::Unrelated => k,
         Link::Related(r) => {
             let from = r.from;
@@ -169,7 +169,7 @@ fn entry_link(
 fn entry_links(
     s: &[u8],
     ix: &[usize; 2470],
-    names: &[usize; 32],
+    lookups: &[usize; 96],
     t: &[u32; 324],
     a: &mut [u16; 288],
     x: &mut [i64; 288],
@@ -177,13 +177,13 @@ fn entry_links(
     y: &mut [i64; 288],
 ) -> usize
     requires { ⌜ Sized (now a) (now x) (now c) (now y) ⌝ }
-    ensures { λ r. ⌜ Adds (entryLinks (now (s .entry)) (now (ix .entry)) (now (names .entry)) (now (t .entry))) 0 r (now (a .entry)) (now (x .entry)) (now (c .entry)) (now (y .entry)) (now (a .exit)) (now (x .exit)) (now (c .exit)) (now (y .exit)) ⌝ }
+    ensures { λ r. ⌜ Adds (entryLinks (now (s .entry)) (now (ix .entry)) (now (lookups .entry)) (now (t .entry))) 0 r (now (a .entry)) (now (x .entry)) (now (c .entry)) (now (y .entry)) (now (a .exit)) (now (x .exit)) (now (c .exit)) (now (y .exit)) ⌝ }
 {
     let n = meant::count(ix);
     let mut k: usize = 0;
     let mut i: usize = 0;
     while i < n {
-        k = entry_link(s, ix, names, t, i, a, x, c, y, k);
+        k = entry_link(s, ix, lookups, t, i, a, x, c, y, k);
         i += 1;
     }
     k
@@ -240,7 +240,7 @@ fn snapshot_links(
 pub fn links(
     s: &[u8],
     ix: &[usize; 2470],
-    names: &[usize; 32],
+    lookups: &[usize; 96],
     t: &[u32; 324],
     machines: &[usize; 32],
     b: &[u8],
@@ -251,11 +251,11 @@ pub fn links(
     c: &mut [u16; 288],
     y: &mut [i64; 288],
 ) -> usize
-    ensures count { λ r. ⌜ r ≡ length (linksBy (now (s .entry)) (now (ix .entry)) (now (names .entry)) (now (t .entry)) (now (machines .entry)) (now (b .entry)) at n) ⌝ }
-    ensures from { λ _. ⌜ now (a .exit) ≡ padded 0 288 (map (λ l. l .a) (linksBy (now (s .entry)) (now (ix .entry)) (now (names .entry)) (now (t .entry)) (now (machines .entry)) (now (b .entry)) at n)) ⌝ }
-    ensures reads { λ _. ⌜ now (x .exit) ≡ padded (pos 0) 288 (map (λ l. l .x) (linksBy (now (s .entry)) (now (ix .entry)) (now (names .entry)) (now (t .entry)) (now (machines .entry)) (now (b .entry)) at n)) ⌝ }
-    ensures to { λ _. ⌜ now (c .exit) ≡ padded 0 288 (map (λ l. l .b) (linksBy (now (s .entry)) (now (ix .entry)) (now (names .entry)) (now (t .entry)) (now (machines .entry)) (now (b .entry)) at n)) ⌝ }
-    ensures gives { λ _. ⌜ now (y .exit) ≡ padded (pos 0) 288 (map (λ l. l .y) (linksBy (now (s .entry)) (now (ix .entry)) (now (names .entry)) (now (t .entry)) (now (machines .entry)) (now (b .entry)) at n)) ⌝ }
+    ensures count { λ r. ⌜ r ≡ length (linksBy (now (s .entry)) (now (ix .entry)) (now (lookups .entry)) (now (t .entry)) (now (machines .entry)) (now (b .entry)) at n) ⌝ }
+    ensures from { λ _. ⌜ now (a .exit) ≡ padded 0 288 (map (λ l. l .a) (linksBy (now (s .entry)) (now (ix .entry)) (now (lookups .entry)) (now (t .entry)) (now (machines .entry)) (now (b .entry)) at n)) ⌝ }
+    ensures reads { λ _. ⌜ now (x .exit) ≡ padded (pos 0) 288 (map (λ l. l .x) (linksBy (now (s .entry)) (now (ix .entry)) (now (lookups .entry)) (now (t .entry)) (now (machines .entry)) (now (b .entry)) at n)) ⌝ }
+    ensures to { λ _. ⌜ now (c .exit) ≡ padded 0 288 (map (λ l. l .b) (linksBy (now (s .entry)) (now (ix .entry)) (now (lookups .entry)) (now (t .entry)) (now (machines .entry)) (now (b .entry)) at n)) ⌝ }
+    ensures gives { λ _. ⌜ now (y .exit) ≡ padded (pos 0) 288 (map (λ l. l .y) (linksBy (now (s .entry)) (now (ix .entry)) (now (lookups .entry)) (now (t .entry)) (now (machines .entry)) (now (b .entry)) at n)) ⌝ }
 {
     let clocks: [u16; 288] = [0; 288];
     let readings: [i64; 288] = [0; 288];
@@ -263,7 +263,7 @@ pub fn links(
     *x = readings;
     *c = clocks;
     *y = readings;
-    let k = entry_links(s, ix, names, t, a, x, c, y);
+    let k = entry_links(s, ix, lookups, t, a, x, c, y);
     snapshot_links(machines, b, at, n, a, x, c, y, k)
 }
 

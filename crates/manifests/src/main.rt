@@ -109,8 +109,8 @@ fn manifest(s: &[u8], from: usize, end: usize, m: &mut [u8; 65537]) -> usize
 // One line for a manifest.
 fn tell(name: &[u8], m: &[u8]) {
     let mut ix: [usize; 2470] = [0; 2470];
-    let mut names: [usize; 32] = [0; 32];
-    let refusal = reader::read(m, &mut ix, &mut names);
+    let mut lookups: [usize; 96] = [0; 96];
+    let refusal = reader::read(m, &mut ix, &mut lookups);
     io::write_all(1, name);
     io::write_all(1, b" ");
     io::print_decimal(1, refusal as u64);

@@ -2,7 +2,7 @@
 use mathlib.Core.Path.{_≡_, refl, sym, ap, _∙_}
 use mathlib.Core.Bool.{Bool, true, false}
 use mathlib.Core.List.{List}
-use Prim.Native.Nat.{ℕ, _+_, _*_, _≤_, _<_}
+use Prim.Native.Nat.{ℕ, _+_, _*_, _-_, _≤_, _<_}
 use lib.Dec.{eqb, ltb}
 use lib.IntN.{ℤ, pos}
 use lib.ListN.{getD}
@@ -27,7 +27,7 @@ use Rattle.finds.specs.Finds.{entryOf, nameFor, baseAt}
 use Rattle.named.specs.Named.{numberAt}
 use Rattle.meant.specs.declared.Owned.the-variants.{Nobody, Whole, Split}
 use Rattle.meant.specs.declared.Part.the-variants.{Undeclared, Of}
-use Rattle.meant.specs.Meant.{offsetIn, baseOf, ownedOf, partOf, citedAt, offsetAt, relatedTo, linkOf, traceMachineAt, timelineOf}
+use Rattle.meant.specs.Meant.{offsetIn, baseOf, ownedOf, partOf, citedAt, offsetAt, relatedTo, citesBy, linkOf, tiedBy, traceMachineAt, timelineOf}
 
 -- a number that was found is 0, or is not
 zero : {a b : ℕ} → a ≡ b → a ≡ 0 → eqb b 0 ≡ true
@@ -122,7 +122,7 @@ module _ (s : Text) (ix names : List ℕ) where
         offset = (toZ-ofZ fits ∙ (ez ∙ ap (offsetAt s ix names) eo)) j;
       })
 
-  -- `link`: a, b and f are columns 4, 7 and 8, e the entry that is found
+  -- `link`: a and b are columns 4 and 7, c the number of the entry that is cited
   module _ (i : ℕ) {a : ℕ} (ea : a ≡ colOf ix i 4) where
     pub link-no-clocks : a ≡ 0 → Unrelated ≡ linkOf s ix names i
     unfolding linkOf
@@ -133,27 +133,55 @@ module _ (s : Text) (ix names : List ℕ) where
       unfolding linkOf
       link-no-sync z = sym (pick-false Unrelated _ (some ea na) ∙ pick-true Unrelated _ (zero eb z))
 
-      module _ (nb : b ≡ 0 → ⊥) {f : ℕ} (ef : f ≡ colOf ix i 8) where
-        pub link-no-file : f ≡ 0 → Unrelated ≡ linkOf s ix names i
-        unfolding linkOf
-        link-no-file z = sym (pick-false Unrelated _ (some ea na) ∙ (pick-false Unrelated _ (some eb nb) ∙ pick-true Unrelated _ (zero ef z)))
+      module _ (nb : b ≡ 0 → ⊥) {c : ℕ} (ec : c ≡ getD names (64 + i) 0) where
+        at-cited : linkOf s ix names i ≡ pick (eqb c 0) Unrelated (pick (ltb 32 c) Unrelated (relatedTo s ix names i (c - 1)))
+        unfolding linkOf citesBy
+        at-cited =
+            pick-false Unrelated _ (some ea na)
+            ∙ (pick-false Unrelated _ (some eb nb)
+            ∙ ap (λ (k : ℕ). pick (eqb k 0) Unrelated (pick (ltb 32 k) Unrelated (relatedTo s ix names i (k - 1)))) (sym ec))
 
-        module _ (nf : f ≡ 0 → ⊥) {e : ℕ} (ee : e ≡ entryOf (manifestOf s ix) (textAt s f)) where
-          there : e ≡ entryOf (manifestOf s ix) (textAt s (colOf ix i 8))
-          there = ee ∙ ap (λ (p : ℕ). entryOf (manifestOf s ix) (textAt s p)) ef
+        pub link-none : c ≡ 0 → Unrelated ≡ linkOf s ix names i
+        link-none z = sym (at-cited ∙ pick-true Unrelated _ (zero refl z))
 
-          at-file : linkOf s ix names i ≡ pick (ltb e 32) (relatedTo s ix names i e) Unrelated
-          unfolding linkOf
-          at-file =
-              pick-false Unrelated _ (some ea na)
-              ∙ (pick-false Unrelated _ (some eb nb)
-              ∙ (pick-false Unrelated _ (some ef nf) ∙ ap (λ (k : ℕ). pick (ltb k 32) (relatedTo s ix names i k) Unrelated) (sym there)))
+        module _ (nc : c ≡ 0 → ⊥) where
+          pub link-no-entry : 32 < c → Unrelated ≡ linkOf s ix names i
+          link-no-entry h = sym (at-cited ∙ (pick-false Unrelated _ (some refl nc) ∙ pick-true Unrelated _ (lt-ltb 32 c h)))
 
-          pub link-no-entry : 32 ≤ e → Unrelated ≡ linkOf s ix names i
-          link-no-entry h = sym (at-file ∙ pick-false (relatedTo s ix names i e) Unrelated (le-ltb e 32 h))
+          pub link-related : c ≤ 32 → {r : Link} → r ≡ relatedTo s ix names i (c - 1) → r ≡ linkOf s ix names i
+          link-related h q = q ∙ sym (at-cited ∙ (pick-false Unrelated _ (some refl nc) ∙ pick-false Unrelated _ (le-ltb 32 c h)))
 
-          pub link-related : e < 32 → {r : Link} → r ≡ relatedTo s ix names i e → r ≡ linkOf s ix names i
-          link-related h q = q ∙ sym (at-file ∙ pick-true (relatedTo s ix names i e) Unrelated (lt-ltb e 32 h))
+  -- `tie`: the same, and d is column 5
+  module _ (i : ℕ) {a : ℕ} (ea : a ≡ colOf ix i 4) where
+    pub tie-no-clocks : a ≡ 0 → 0 ≡ tiedBy ix names i
+    unfolding tiedBy
+    tie-no-clocks z = sym (pick-true 0 _ (zero ea z))
+
+    module _ (na : a ≡ 0 → ⊥) {b : ℕ} (eb : b ≡ colOf ix i 7) where
+      pub tie-no-sync : b ≡ 0 → 0 ≡ tiedBy ix names i
+      unfolding tiedBy
+      tie-no-sync z = sym (pick-false 0 _ (some ea na) ∙ pick-true 0 _ (zero eb z))
+
+      module _ (nb : b ≡ 0 → ⊥) {c : ℕ} (ec : c ≡ getD names (64 + i) 0) where
+        tie-cited : tiedBy ix names i ≡ pick (eqb c 0) 0 (pick (ltb 32 c) 0 (pick (eqb (colOf ix i 5) 0) 2 1))
+        unfolding tiedBy citesBy
+        tie-cited =
+            pick-false 0 _ (some ea na)
+            ∙ (pick-false 0 _ (some eb nb) ∙ ap (λ (k : ℕ). pick (eqb k 0) 0 (pick (ltb 32 k) 0 (pick (eqb (colOf ix i 5) 0) 2 1))) (sym ec))
+
+        pub tie-none : c ≡ 0 → 0 ≡ tiedBy ix names i
+        tie-none z = sym (tie-cited ∙ pick-true 0 _ (zero refl z))
+
+        module _ (nc : c ≡ 0 → ⊥) where
+          pub tie-no-entry : 32 < c → 0 ≡ tiedBy ix names i
+          tie-no-entry h = sym (tie-cited ∙ (pick-false 0 _ (some refl nc) ∙ pick-true 0 _ (lt-ltb 32 c h)))
+
+          module _ (h : c ≤ 32) {d : ℕ} (ed : d ≡ colOf ix i 5) where
+            pub tie-private : d ≡ 0 → 2 ≡ tiedBy ix names i
+            tie-private z = sym (tie-cited ∙ (pick-false 0 _ (some refl nc) ∙ (pick-false 0 _ (le-ltb 32 c h) ∙ pick-true 2 1 (zero ed z))))
+
+            pub tie-named : (d ≡ 0 → ⊥) → 1 ≡ tiedBy ix names i
+            tie-named z = sym (tie-cited ∙ (pick-false 0 _ (some refl nc) ∙ (pick-false 0 _ (le-ltb 32 c h) ∙ pick-false 2 1 (some ed z))))
 
   -- `trace_machine_at`: e is the entry that is found
   pub trace-own : (getD ix 4 0 ≡ 0 → ⊥) → getD ix 4 0 ≡ traceMachineAt s ix names

@@ -1,7 +1,7 @@
 -- What may be asked of a manifest's tables, over any tables: theorem `told` says that over those of an accepted manifest the answers are the
 -- meaning's parts. Assumes nothing.
 use mathlib.Core.List.{List}
-use Prim.Native.Nat.{ℕ}
+use Prim.Native.Nat.{ℕ, _+_, _-_}
 use lib.Dec.{eqb, ltb}
 use lib.IntN.{ℤ, pos}
 use lib.ListN.{getD}
@@ -31,6 +31,18 @@ offsetIn (In z) = z
 offsetIn Below = pos 0
 offsetIn Above = pos 0
 offsetIn None = pos 0
+
+-- the entry that entry i cites, from 1 on, as the table of lookups has it; 0 for none
+unfoldable pub citesBy : List ℕ → ℕ → ℕ
+citesBy names i = getD names (64 + i) 0
+
+-- how entry i ties its file's clocks: 0 not at all, 1 by a clock that it names, 2 by the private one (such a file is pinned)
+unfoldable pub tiedBy : List ℕ → List ℕ → ℕ → ℕ
+tiedBy ix names i =
+    pick (eqb (colOf ix i 4) 0) 0
+    (pick (eqb (colOf ix i 7) 0) 0
+    (pick (eqb (citesBy names i) 0) 0
+    (pick (ltb 32 (citesBy names i)) 0 (pick (eqb (colOf ix i 5) 0) 2 1))))
 
 module _ (s : Text) (ix names : List ℕ) where
   -- the base machine of the file that entry i lists
@@ -71,10 +83,8 @@ module _ (s : Text) (ix names : List ℕ) where
   linkOf i =
       pick (eqb (colOf ix i 4) 0) Unrelated
       (pick (eqb (colOf ix i 7) 0) Unrelated
-      (pick (eqb (colOf ix i 8) 0) Unrelated
-      (pick (ltb (entryOf (manifestOf s ix) (textAt s (colOf ix i 8))) 32)
-      (relatedTo i (entryOf (manifestOf s ix) (textAt s (colOf ix i 8))))
-      Unrelated)))
+      (pick (eqb (citesBy names i) 0) Unrelated
+      (pick (ltb 32 (citesBy names i)) Unrelated (relatedTo i (citesBy names i - 1)))))
 
   -- where the name of trace time's machine stands; 0 for the host
   unfoldable pub traceMachineAt : ℕ

@@ -12,9 +12,8 @@ use Rattle.manifest.specs.Rows.{traceTime, firstOr, entries}
 use Rattle.manifest.specs.Rules.{base, refusal-5-or-later}
 use Rattle.manifest.specs.Meaning.{Listed, names-in, numberOf, ownsOf, linked, relation, listing, listings, timeline, meant}
 use Rattle.index.specs.Index.{entriesIn, entryAt, manifestOf}
-use Rattle.finds.specs.Finds.{entryOf}
-use Rattle.named.specs.Named.{nameTable}
-use Rattle.named.specs.Theorems.{count-is}
+use Rattle.finds.specs.Finds.{entryOf, lookups}
+use Rattle.finds.specs.laws.Lookups.{lookups-count}
 use Rattle.meant.specs.Meant.{baseOf, ownedOf, partOf, linkOf, timelineOf}
 use Rattle.meant.specs.Told.{toldOwned, toldPart, Tells}
 use Rattle.meant.specs.laws.Listings.{listing-is, listings-are, entry-first}
@@ -38,24 +37,24 @@ module _ (s : Text) (ix : List ℕ) where
 
   module _ (few : length (names-in (manifestOf s ix)) ≤ 32) where
     -- the base machine, and the machine that an entry declares for its file
-    pub base-told : (i : ℕ) → baseOf s ix (nameTable s ix) i ≡ numberOf (names-in (manifestOf s ix)) (base (entryAt s ix i))
+    pub base-told : (i : ℕ) → baseOf s ix (lookups s ix) i ≡ numberOf (names-in (manifestOf s ix)) (base (entryAt s ix i))
     base-told i = base-number s ix few i
 
-    pub owned-told : (i : ℕ) → ownedOf s ix (nameTable s ix) i ≡ toldOwned (ownsOf (manifestOf s ix) (entryAt s ix i))
+    pub owned-told : (i : ℕ) → ownedOf s ix (lookups s ix) i ≡ toldOwned (ownsOf (manifestOf s ix) (entryAt s ix i))
     owned-told i = owned-is s ix few i
 
     module _ (accepted : refusal-5-or-later (one (manifestOf s ix)) ≡ 0) where
       module _ {i : ℕ} (below : i < entriesIn ix) where
         -- the machine that it names for an id; none in a file that is not split
-        pub part-told : (z : ℕ) → partOf s ix (nameTable s ix) i z ≡ toldPart z (ownsOf (manifestOf s ix) (entryAt s ix i))
+        pub part-told : (z : ℕ) → partOf s ix (lookups s ix) i z ≡ toldPart z (ownsOf (manifestOf s ix) (entryAt s ix i))
         part-told z = part-is s ix few accepted below z
 
         -- how it relates its file's clock
-        pub link-told : linkOf s ix (nameTable s ix) i ≡ linked (relation (manifestOf s ix) i (entryAt s ix i))
+        pub link-told : linkOf s ix (lookups s ix) i ≡ linked (relation (manifestOf s ix) i (entryAt s ix i))
         link-told = link-is s ix few accepted below
 
       -- trace time
-      pub timeline-told : timelineOf s ix (nameTable s ix) ≡ timeline (manifestOf s ix) (traceTime (manifestOf s ix))
+      pub timeline-told : timelineOf s ix (lookups s ix) ≡ timeline (manifestOf s ix) (traceTime (manifestOf s ix))
       timeline-told = timeline-is s ix few accepted
 
       -- all of it: over an accepted manifest's tables the answers are the parts of its meaning
@@ -63,7 +62,7 @@ module _ (s : Text) (ix : List ℕ) where
       unfolding meant
       told = record {
         entries-told = sym listings-length;
-        names-told = let e : min 32 (length (names-in (manifestOf s ix))) ≡ length (names-in (manifestOf s ix)) = omega arith in count-is s ix ∙ e;
+        names-told = let e : min 32 (length (names-in (manifestOf s ix))) ≡ length (names-in (manifestOf s ix)) = omega arith in lookups-count s ix ∙ e;
         entry-told = λ t. entry-told t accepted;
         base-told = λ {i} h d. base-told i ∙ sym (ap (λ (l : Listed). l .base) (listing-at h d));
         owned-told = λ {i} h d. owned-told i ∙ sym (ap (λ (l : Listed). toldOwned (l .owns)) (listing-at h d));

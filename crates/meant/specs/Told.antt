@@ -11,8 +11,8 @@ use Rattle.manifest.specs.Rows.{firstOr}
 use Rattle.manifest.specs.Rules.{same-id}
 use Rattle.manifest.specs.Meaning.{Owns, nothing, whole-file, parts, Listed, Meaning}
 use Rattle.index.specs.Index.{entriesIn, manifestOf}
-use Rattle.finds.specs.Finds.{entryOf}
-use Rattle.named.specs.Named.{nameTable, countIn}
+use Rattle.finds.specs.Finds.{entryOf, lookups}
+use Rattle.named.specs.Named.{countIn}
 use Rattle.meant.specs.declared.Owned.{Owned}
 use Rattle.meant.specs.declared.Owned.the-variants.{Nobody, Whole, Split}
 use Rattle.meant.specs.declared.Part.{Part}
@@ -39,10 +39,10 @@ toldPart z (parts l) = partWith z l
 -- `Tells s ix w`: over the index ix of a text s and its table of names, each answer is a part of the meaning w. (d is for no place of the list)
 pub record Tells (s : Text) (ix : List ℕ) (w : Meaning) : Type 0 where
   pub entries-told : entriesIn ix ≡ length (w .listed)
-  pub names-told : countIn (nameTable s ix) ≡ length (w .names)
+  pub names-told : countIn (lookups s ix) ≡ length (w .names)
   pub entry-told : (path : Text) → entryOf (manifestOf s ix) path ≡ firstOr 32 (λ (l : Listed). same path (l .path)) (w .listed) 0
-  pub base-told : {i : ℕ} → i < entriesIn ix → (d : Listed) → baseOf s ix (nameTable s ix) i ≡ getD (w .listed) i d .base
-  pub owned-told : {i : ℕ} → i < entriesIn ix → (d : Listed) → ownedOf s ix (nameTable s ix) i ≡ toldOwned (getD (w .listed) i d .owns)
-  pub part-told : {i : ℕ} → i < entriesIn ix → (d : Listed) (z : ℕ) → partOf s ix (nameTable s ix) i z ≡ toldPart z (getD (w .listed) i d .owns)
-  pub link-told : {i : ℕ} → i < entriesIn ix → (d : Listed) → linkOf s ix (nameTable s ix) i ≡ getD (w .listed) i d .link
-  pub timeline-told : timelineOf s ix (nameTable s ix) ≡ w .trace
+  pub base-told : {i : ℕ} → i < entriesIn ix → (d : Listed) → baseOf s ix (lookups s ix) i ≡ getD (w .listed) i d .base
+  pub owned-told : {i : ℕ} → i < entriesIn ix → (d : Listed) → ownedOf s ix (lookups s ix) i ≡ toldOwned (getD (w .listed) i d .owns)
+  pub part-told : {i : ℕ} → i < entriesIn ix → (d : Listed) (z : ℕ) → partOf s ix (lookups s ix) i z ≡ toldPart z (getD (w .listed) i d .owns)
+  pub link-told : {i : ℕ} → i < entriesIn ix → (d : Listed) → linkOf s ix (lookups s ix) i ≡ getD (w .listed) i d .link
+  pub timeline-told : timelineOf s ix (lookups s ix) ≡ w .trace

@@ -4,10 +4,10 @@ ghost use mathlib.Core.List.{List};
 ghost use Prim.Native.Nat.{ℕ, _<_};
 ghost use lib.Dec.{eqb};
 ghost use Rattle.text.specs.Reading.{pick};
-ghost use Rattle.index.specs.Index.{entriesIn, manifestOf};
-ghost use Rattle.finds.specs.Finds.{entryOf, baseAt};
+ghost use Rattle.index.specs.Index.{entriesIn};
+ghost use Rattle.finds.specs.Finds.{baseAt};
 ghost use Rattle.named.specs.Named.{countIn};
-ghost use Rattle.meant.specs.Meant.{baseOf, ownedOf, partOf, citedAt, offsetAt, relatedTo, linkOf, traceMachineAt, timelineOf};
+ghost use Rattle.meant.specs.Meant.{baseOf, ownedOf, partOf, citedAt, offsetAt, relatedTo, linkOf, tiedBy, traceMachineAt, timelineOf};
 use manifest::Cited;
 use manifest::Link;
 use manifest::Relation;
@@ -35,22 +35,15 @@ pub fn count(ix: &[usize; 2470]) -> usize
 }
 
 // How many named machines there are; 32 also if there are more.
-pub fn named(names: &[usize; 32]) -> usize
-    ensures { λ r. ⌜ r ≡ countIn (now (names .entry)) ⌝ }
+pub fn named(lookups: &[usize; 96]) -> usize
+    ensures { λ r. ⌜ r ≡ countIn (now (lookups .entry)) ⌝ }
 {
-    named::count(names)
-}
-
-// Which entry lists the file with this path; 32 if none does.
-pub fn entry(s: &[u8], ix: &[usize; 2470], path: &[u8]) -> usize
-    ensures { λ r. ⌜ r ≡ entryOf (manifestOf (now (s .entry)) (now (ix .entry))) (now (path .entry)) ⌝ }
-{
-    finds::entry_named(s, ix, path)
+    named::count(lookups)
 }
 
 // The machine that entry i declares for its file.
-pub fn owned_of(s: &[u8], ix: &[usize; 2470], names: &[usize; 32], i: usize) -> Owned
-    ensures { λ r. ⌜ r ≡ ownedOf (now (s .entry)) (now (ix .entry)) (now (names .entry)) i ⌝ }
+pub fn owned_of(s: &[u8], ix: &[usize; 2470], lookups: &[usize; 96], i: usize) -> Owned
+    ensures { λ r. ⌜ r ≡ ownedOf (now (s .entry)) (now (ix .entry)) (now (lookups .entry)) i ⌝ }
 {
     if index::col(ix, i, 3) != 0 {
         return Owned::Split;
@@ -58,28 +51,28 @@ pub fn owned_of(s: &[u8], ix: &[usize; 2470], names: &[usize; 32], i: usize) -> 
     if index::col(ix, i, 1) == 0 {
         return Owned::Nobody;
     }
-    let machine = base(s, ix, names, i);
+    let machine = base(s, ix, lookups, i);
     Owned::Whole(machine)
 }
 
 // The machine that entry i names for an id.
-pub fn part_of(s: &[u8], ix: &[usize; 2470], names: &[usize; 32], i: usize, id: u32) -> Part
-    ensures { λ r. ⌜ r ≡ partOf (now (s .entry)) (now (ix .entry)) (now (names .entry)) i id ⌝ }
+pub fn part_of(s: &[u8], ix: &[usize; 2470], lookups: &[usize; 96], i: usize, id: u32) -> Part
+    ensures { λ r. ⌜ r ≡ partOf (now (s .entry)) (now (ix .entry)) (now (lookups .entry)) i id ⌝ }
 {
     let name = finds::name_for(s, ix, i, id);
     if name == 0 {
         return Part::Undeclared;
     }
-    let machine = named::number_at(s, names, name);
+    let machine = named::number_at(s, lookups, name);
     Part::Of(machine)
 }
 
 // The base machine of the file that entry i lists.
-pub fn base(s: &[u8], ix: &[usize; 2470], names: &[usize; 32], i: usize) -> Machine
-    ensures { λ r. ⌜ r ≡ baseOf (now (s .entry)) (now (ix .entry)) (now (names .entry)) i ⌝ }
+pub fn base(s: &[u8], ix: &[usize; 2470], lookups: &[usize; 96], i: usize) -> Machine
+    ensures { λ r. ⌜ r ≡ baseOf (now (s .entry)) (now (ix .entry)) (now (lookups .entry)) i ⌝ }
 {
     let at = finds::base_at(s, ix, i);
-    named::number_at(s, names, at)
+    named::number_at(s, lookups, at)
 }
 
 // Where the name of a cited machine stands: at the position of a `machine`; without one, that of the base machine of entry i's file.
@@ -96,26 +89,26 @@ fn machine_at(s: &[u8], ix: &[usize; 2470], i: usize, machine: usize) -> usize
 fn cited_at(
     s: &[u8],
     ix: &[usize; 2470],
-    names: &[usize; 32],
+    lookups: &[usize; 96],
     i: usize,
     clock: usize,
     machine: usize,
 ) -> Cited
     requires { ⌜ i < 32 ⌝ }
-    ensures { λ r. ⌜ r ≡ citedAt (now (s .entry)) (now (ix .entry)) (now (names .entry)) i clock machine ⌝ }
+    ensures { λ r. ⌜ r ≡ citedAt (now (s .entry)) (now (ix .entry)) (now (lookups .entry)) i clock machine ⌝ }
 {
     if clock == 0 {
         return Cited::Private(i as u8);
     }
     let domain = outline::domain(s, clock);
     let name = machine_at(s, ix, i, machine);
-    let whose = named::number_at(s, names, name);
+    let whose = named::number_at(s, lookups, name);
     Cited::Domain(domain, whose)
 }
 
 // The offset at a position; 0 without one, and where 64 bits do not hold it.
 fn offset_at(s: &[u8], p: usize) -> i64
-    ensures { λ r. ⌜ ((ix names : List ℕ) → r ≡ offsetAt (now (s .entry)) ix names p) ⌝ }
+    ensures { λ r. ⌜ ((ix lookups : List ℕ) → r ≡ offsetAt (now (s .entry)) ix lookups p) ⌝ }
 {
     if p == 0 {
         return 0;
@@ -129,16 +122,16 @@ fn offset_at(s: &[u8], p: usize) -> i64
 }
 
 // How entry i relates its file to the file of entry e.
-fn related_to(s: &[u8], ix: &[usize; 2470], names: &[usize; 32], i: usize, e: usize) -> Link
+fn related_to(s: &[u8], ix: &[usize; 2470], lookups: &[usize; 96], i: usize, e: usize) -> Link
     requires { ⌜ (i < 32) × (e < 32) ⌝ }
-    ensures { λ r. ⌜ r ≡ relatedTo (now (s .entry)) (now (ix .entry)) (now (names .entry)) i e ⌝ }
+    ensures { λ r. ⌜ r ≡ relatedTo (now (s .entry)) (now (ix .entry)) (now (lookups .entry)) i e ⌝ }
 {
     let own_clock = index::col(ix, i, 5);
     let own_machine = index::col(ix, i, 6);
-    let from = cited_at(s, ix, names, i, own_clock, own_machine);
+    let from = cited_at(s, ix, lookups, i, own_clock, own_machine);
     let its_clock = index::col(ix, i, 10);
     let its_machine = index::col(ix, i, 9);
-    let to = cited_at(s, ix, names, e, its_clock, its_machine);
+    let to = cited_at(s, ix, lookups, e, its_clock, its_machine);
     let offset = offset_at(s, index::col(ix, i, 11));
     let relation = Relation {
         from: from,
@@ -149,8 +142,8 @@ fn related_to(s: &[u8], ix: &[usize; 2470], names: &[usize; 32], i: usize, e: us
 }
 
 // How entry i relates its file's clock.
-pub fn link(s: &[u8], ix: &[usize; 2470], names: &[usize; 32], i: usize) -> Link
-    ensures { λ r. ⌜ r ≡ linkOf (now (s .entry)) (now (ix .entry)) (now (names .entry)) i ⌝ }
+pub fn link(s: &[u8], ix: &[usize; 2470], lookups: &[usize; 96], i: usize) -> Link
+    ensures { λ r. ⌜ r ≡ linkOf (now (s .entry)) (now (ix .entry)) (now (lookups .entry)) i ⌝ }
 {
     if index::col(ix, i, 4) == 0 {
         return Link::Unrelated;
@@ -158,20 +151,39 @@ pub fn link(s: &[u8], ix: &[usize; 2470], names: &[usize; 32], i: usize) -> Link
     if index::col(ix, i, 7) == 0 {
         return Link::Unrelated;
     }
-    let file = index::col(ix, i, 8);
-    if file == 0 {
+    let cited = lookups[64 + i];
+    if cited == 0 {
         return Link::Unrelated;
     }
-    let e = finds::entry_with(s, ix, file);
-    if e < 32 {
-        return related_to(s, ix, names, i, e);
+    if 32 < cited {
+        return Link::Unrelated;
     }
-    Link::Unrelated
+    related_to(s, ix, lookups, i, cited - 1)
+}
+
+// How entry i ties its file's clocks: 0 not at all, 1 by a clock that it names, 2 by the private one.
+pub fn tie(ix: &[usize; 2470], lookups: &[usize; 96], i: usize) -> u32
+    ensures { λ r. ⌜ r ≡ tiedBy (now (ix .entry)) (now (lookups .entry)) i ⌝ }
+{
+    if index::col(ix, i, 4) == 0 {
+        return 0;
+    }
+    if index::col(ix, i, 7) == 0 {
+        return 0;
+    }
+    let cited = lookups[64 + i];
+    if cited == 0 {
+        return 0;
+    }
+    if 32 < cited {
+        return 0;
+    }
+    if index::col(ix, i, 5) == 0 { 2 } else { 1 }
 }
 
 // Where the name of trace time's machine stands; 0 for the host.
 fn trace_machine_at(s: &[u8], ix: &[usize; 2470]) -> usize
-    ensures { λ r. ⌜ ((names : List ℕ) → r ≡ traceMachineAt (now (s .entry)) (now (ix .entry)) names) ⌝ }
+    ensures { λ r. ⌜ ((lookups : List ℕ) → r ≡ traceMachineAt (now (s .entry)) (now (ix .entry)) lookups) ⌝ }
 {
     let machine = ix[4];
     if machine != 0 {
@@ -189,14 +201,14 @@ fn trace_machine_at(s: &[u8], ix: &[usize; 2470]) -> usize
 }
 
 // What `trace_time` says.
-pub fn timeline(s: &[u8], ix: &[usize; 2470], names: &[usize; 32]) -> Timeline
-    ensures { λ r. ⌜ r ≡ timelineOf (now (s .entry)) (now (ix .entry)) (now (names .entry)) ⌝ }
+pub fn timeline(s: &[u8], ix: &[usize; 2470], lookups: &[usize; 96]) -> Timeline
+    ensures { λ r. ⌜ r ≡ timelineOf (now (s .entry)) (now (ix .entry)) (now (lookups .entry)) ⌝ }
 {
     if ix[1] == 0 {
         return Timeline::Unset;
     }
     let domain = outline::domain(s, ix[2]);
     let at = trace_machine_at(s, ix);
-    let whose = named::number_at(s, names, at);
+    let whose = named::number_at(s, lookups, at);
     Timeline::Set(domain, whose)
 }

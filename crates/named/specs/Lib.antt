@@ -1,4 +1,5 @@
 -- The named machines. In reading order.
+pub mod Prints
 pub mod Named
 pub mod Theorems
 pub mod laws

@@ -1,14 +1,15 @@
 -- The named machines: where the name of each first stands, and the number of a machine by its name. Assumes nothing.
 use mathlib.Core.Bool.{Bool, not, _&&_}
-use mathlib.Core.List.{List, [], _∷_, _++_}
-use Prim.Native.Nat.{ℕ, _-_}
+use mathlib.Core.List.{List, [], _∷_, _++_, map}
+use Prim.Native.Nat.{ℕ, _+_, _-_}
 use lib.Dec.{eqb}
-use lib.ListN.{length, take, replicate}
+use lib.ListN.{length, getD, take, replicate}
 use Rattle.text.specs.Reading.{Text, pick}
 use Rattle.json.specs.Tree.{same}
 use Rattle.numbers.specs.declared.Machine.{Machine}
 use Rattle.manifest.specs.Rows.{firstOr, flat}
 use Rattle.index.specs.Index.{textAt, colOf, itemOf, entriesIn, itemsIn, listed}
+use Rattle.named.specs.Prints.{printAt}
 
 -- a position, if it is one: 0 stands for no value
 unfoldable pub place : ℕ → List ℕ
@@ -41,10 +42,28 @@ namesIn s ix = distinctAt s (declaredIn ix)
 unfoldable pub nameTable : Text → List ℕ → List ℕ
 nameTable s ix = take 32 (namesIn s ix) ++ replicate (32 - length (take 32 (namesIn s ix))) 0
 
--- how many names a table holds: up to its first 0
-unfoldable pub countIn : List ℕ → ℕ
-countIn names = firstOr 32 (λ q. eqb q 0) names 0
+-- the print of the name at a position; 0 where there is no name
+unfoldable pub namePrint : Text → ℕ → ℕ
+namePrint s p = pick (eqb p 0) 0 (printAt s p)
 
--- the number of the machine whose name stands at p, by a table: the host's for position 0, and for a name that the table does not hold
+-- the prints of the names of the table
+unfoldable pub printTable : Text → List ℕ → List ℕ
+printTable s ix = map (namePrint s) (nameTable s ix)
+
+-- ---- what a table tells: 32 positions of names, then a print for each. Both are told of any table; theorems `count-is`, `number-is` say it of the manifest's
+
+-- how many names it holds: up to the first 0
+unfoldable pub countIn : List ℕ → ℕ
+countIn table = firstOr 32 (λ q. eqb q 0) (take 32 table) 0
+
+-- a name stands at q, and it is the text at p
+unfoldable pub isCalled : Text → ℕ → ℕ → Bool
+isCalled s p q = not (eqb q 0) && same (textAt s p) (textAt s q)
+
+-- the name at place k has the print of the text at p, and is that text
+unfoldable pub isNamed : Text → List ℕ → ℕ → ℕ → Bool
+isNamed s table p k = eqb (getD table (32 + k) 0) (printAt s p) && isCalled s p (getD table k 0)
+
+-- the number of the machine whose name stands at p: the host's for position 0, and for a name that the table does not hold
 unfoldable pub numberAt : Text → List ℕ → ℕ → Machine
-numberAt s names p = record { 0 = pick (eqb p 0) 0 (firstOr 0 (λ q. not (eqb q 0) && same (textAt s p) (textAt s q)) names 1) }
+numberAt s table p = record { 0 = pick (eqb p 0) 0 (firstOr 0 (isNamed s table p) (listed (λ k. k) 0 32) 1) }

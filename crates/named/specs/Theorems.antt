@@ -1,12 +1,16 @@
 -- What the table of names is good for: it numbers the machines of the manifest that the index stands for. Assumes nothing.
 use mathlib.Core.Path.{_≡_}
-use mathlib.Core.List.{List, map}
+use mathlib.Core.Bool.{true}
+use mathlib.Core.List.{List, [], _++_, map}
 use Prim.Native.Nat.{ℕ, _≤_, min}
 use lib.ListN.{length}
 use Rattle.text.specs.Reading.{Text}
+use Rattle.json.specs.Tree.{same}
 use Rattle.manifest.specs.Meaning.{names-in, numberOf}
 use Rattle.index.specs.Index.{textAt, manifestOf, whoseAt}
-use Rattle.named.specs.Named.{namesIn, nameTable, countIn, numberAt}
+use Rattle.named.specs.Prints.{printFrom, printAt}
+use Rattle.named.specs.Named.{namesIn, nameTable, printTable, countIn, numberAt}
+use Rattle.named.specs.laws.Prints.{same-print, print-empty}
 use Rattle.named.specs.laws.Meant.{names-texts, table-long, table-count, table-number}
 
 -- the texts at the positions are the names of machines 1, 2, ..
@@ -17,10 +21,18 @@ names-are s ix = names-texts s ix
 pub table-length : (s : Text) (ix : List ℕ) → length (nameTable s ix) ≡ 32
 table-length s ix = table-long s ix
 
--- it holds as many as there are, or 32
-pub count-is : (s : Text) (ix : List ℕ) → countIn (nameTable s ix) ≡ min 32 (length (names-in (manifestOf s ix)))
-count-is s ix = table-count s ix
+-- it holds as many as there are, or 32, whatever stands behind it
+pub count-is : (s : Text) (ix rest : List ℕ) → countIn (nameTable s ix ++ rest) ≡ min 32 (length (names-in (manifestOf s ix)))
+count-is s ix rest = table-count s ix rest
 
--- and if it holds them all, then by it each machine has its number; the host has 0
-pub number-is : (s : Text) (ix : List ℕ) (p : ℕ) → length (names-in (manifestOf s ix)) ≤ 32 → numberAt s (nameTable s ix) p ≡ numberOf (names-in (manifestOf s ix)) (whoseAt s p)
-number-is s ix p h = table-number s ix p h
+-- and if it holds them all, then by it and its prints each machine has its number; the host has 0
+pub number-is : (s : Text) (ix rest : List ℕ) (p : ℕ) → length (names-in (manifestOf s ix)) ≤ 32
+    → numberAt s (nameTable s ix ++ (printTable s ix ++ rest)) p ≡ numberOf (names-in (manifestOf s ix)) (whoseAt s p)
+number-is s ix rest p h = table-number s ix rest p h
+
+-- equal texts have one print, and the empty text alone has 0
+pub one-text-one-print : (s : Text) (p q : ℕ) → same (textAt s p) (textAt s q) ≡ true → printAt s p ≡ printAt s q
+one-text-one-print s p q h = same-print s p q h
+
+pub print-0-of-nothing : (t : Text) → printFrom 0 t ≡ 0 → t ≡ []
+print-0-of-nothing t h = print-empty t h

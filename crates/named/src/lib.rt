@@ -1,18 +1,13 @@
 // The named machines: a table of where the name of each first stands in the text, and the number of a machine by its name.
 ghost use mathlib.Core.Path.{_≡_};
-ghost use mathlib.Core.Bool.{true};
 ghost use Prim.Native.Nat.{_≤_, _<_};
-ghost use lib.Dec.{eqb};
 ghost use lib.ListN.{length};
 ghost use Rattle.json.specs.Tree.{same};
+ghost use Rattle.text.specs.Reading.{part};
 ghost use Rattle.text.specs.Strings.{utf8};
-ghost use Rattle.values.specs.laws.Ordinary.{Ordinary};
 ghost use Rattle.index.specs.Index.{textAt};
-ghost use Rattle.named.specs.Named.{place, declaredAt, nameTable, countIn, numberAt};
-ghost use Rattle.named.specs.laws.Texts.{known};
-ghost use Rattle.named.specs.laws.Firsts.{isCalled};
-ghost use Rattle.named.specs.laws.Prints.{step, printFrom, printAt};
-ghost use Rattle.named.specs.laws.Tables.{pathPrints};
+ghost use Rattle.named.specs.Named.{place, declaredAt, nameTable, printTable, countIn, isCalled, numberAt};
+ghost use Rattle.named.specs.Prints.{step, printFrom, printAt, pathPrints};
 ghost use Rattle.named.specs.laws.Held.{Added};
 ghost use Rattle.named.specs.laws.Kept.{Printed, Place};
 ghost use Rattle.named.specs.laws.Filled.{machineAt};
@@ -23,31 +18,44 @@ struct Tally {
     next: usize,
 }
 
-// The table of the names of machines 1, 2, .. by where each first stands, at most 32 of them, then zeros.
-pub fn fill(s: &[u8], ix: &[usize; 2470], names: &mut [usize; 32])
-    ensures { λ _. ⌜ now (names .exit) ≡ nameTable (now (s .entry)) (now (ix .entry)) ⌝ }
+// The names of machines 1, 2, .. by where each first stands, at most 32 of them, then zeros; and their prints.
+pub struct Names {
+    pub positions: [usize; 32],
+    pub prints: [u32; 32],
+}
+
+// The names that the entries of an index declare.
+pub fn fill(s: &[u8], ix: &[usize; 2470]) -> Names
+    ensures { λ r. ⌜ (r .positions ≡ nameTable (now (s .entry)) (now (ix .entry))) × (r .prints ≡ printTable (now (s .entry)) (now (ix .entry))) ⌝ }
 {
-    let zeros: [usize; 32] = [0; 32];
-    *names = zeros;
+    let mut positions: [usize; 32] = [0; 32];
     let mut prints: [u32; 32] = [0; 32];
     let entries = index::entries(ix);
     let mut t = Tally { held: 0, next: 0 };
     let mut i: usize = 0;
     while i < entries {
-        t = add_entry(s, ix, i, names, &mut prints, t);
+        t = add_entry(s, ix, i, &mut positions, &mut prints, t);
         i += 1;
     }
+    Names { positions, prints }
+}
+
+// A print as a number of the table.
+fn wide(print: u32) -> usize
+    ensures { λ r. ⌜ r ≡ print ⌝ }
+{
+    print as usize
 }
 
 // How many names a table holds.
-pub fn count(names: &[usize; 32]) -> usize
-    ensures { λ r. ⌜ r ≡ countIn (now (names .entry)) ⌝ }
+pub fn count(table: &[usize; 96]) -> usize
+    ensures { λ r. ⌜ r ≡ countIn (now (table .entry)) ⌝ }
 {
     // (a slice tells its length)
-    let table: &[usize] = names;
+    let held: &[usize] = table;
     let mut k: usize = 0;
     while k < 32 {
-        if table[k] == 0 {
+        if held[k] == 0 {
             return k;
         }
         k += 1;
@@ -56,41 +64,39 @@ pub fn count(names: &[usize; 32]) -> usize
 }
 
 // The number of the machine whose name stands at p; 0, which is the host's, for position 0 and for a name that the table does not hold.
-pub fn number_at(s: &[u8], names: &[usize; 32], p: usize) -> numbers::Machine
-    ensures { λ r. ⌜ r ≡ numberAt (now (s .entry)) (now (names .entry)) p ⌝ }
+pub fn number_at(s: &[u8], table: &[usize; 96], p: usize) -> numbers::Machine
+    ensures { λ r. ⌜ r ≡ numberAt (now (s .entry)) (now (table .entry)) p ⌝ }
 {
     if p == 0 {
         return numbers::Machine(0);
     }
-    let empty = index::length_at(s, p) == 0;
-    let table: &[usize] = names;
+    let print = print_at(s, p);
+    let wanted = wide(print);
+    let held: &[usize] = table;
     let mut k: usize = 0;
     while k < 32 {
-        if is_called(s, p, empty, table[k]) {
-            return numbers::Machine((k + 1) as u8);
+        if held[32 + k] == wanted {
+            if is_called(s, p, print, held[k]) {
+                return numbers::Machine((k + 1) as u8);
+            }
         }
         k += 1;
     }
     numbers::Machine(0)
 }
 
-// A name stands at q, and it is the text at p, of which is known whether it is empty.
-fn is_called(s: &[u8], p: usize, empty: bool, q: usize) -> bool
-    requires { ⌜ empty ≡ eqb (length (textAt (now s) p)) 0 ⌝ }
+// A name stands at q, and it is the text at p, whose print is known: 0 tells an empty text.
+fn is_called(s: &[u8], p: usize, print: u32, q: usize) -> bool
+    requires { ⌜ print ≡ printAt (now s) p ⌝ }
     ensures { λ r. ⌜ r ≡ isCalled (now (s .entry)) p q ⌝ }
 {
     if q == 0 {
         return false;
     }
-    is_text(s, p, empty, q)
-}
-
-// The text at q is the text at p, of which is known whether it is empty: that is asked once for many q, and decides how they are compared.
-fn is_text(s: &[u8], p: usize, empty: bool, q: usize) -> bool
-    requires { ⌜ empty ≡ eqb (length (textAt (now s) p)) 0 ⌝ }
-    ensures { λ r. ⌜ r ≡ same (textAt (now (s .entry)) p) (textAt (now (s .entry)) q) ⌝ }
-{
-    if empty {
+    if q == p {
+        return true;
+    }
+    if print == 0 {
         return index::length_at(s, q) == 0;
     }
     values::same_texts(s, q, p)
@@ -195,31 +201,18 @@ fn place_by_print(s: &[u8], p: usize, names: &[usize; 32], prints: &[u32; 32], n
     n
 }
 
-// The texts at p and q, which have one print, are the same. That of an empty text is 0, and of no other.
-fn same_by_print(s: &[u8], p: usize, q: usize, print: u32) -> bool
-    requires { ⌜ (print ≡ printAt (now s) p) × (print ≡ printAt (now s) q) ⌝ }
+// The texts at p and q, which share one print, are the same. That of an empty text is 0, and of no other.
+fn same_by_print(s: &[u8], p: usize, q: usize, shared: u32) -> bool
+    requires { ⌜ (shared ≡ printAt (now s) p) × (shared ≡ printAt (now s) q) ⌝ }
     ensures { λ r. ⌜ r ≡ same (textAt (now (s .entry)) p) (textAt (now (s .entry)) q) ⌝ }
 {
-    if print == 0 {
+    if shared == 0 {
         return true;
     }
     values::same_texts(s, q, p)
 }
 
 // ---- the print of a text: a number that equal texts share, and few others
-
-// A byte that is a character by itself, if it is no quote.
-fn ordinary(b: u32) -> bool
-    ensures { λ r. ⌜ (r ≡ true → Ordinary b) ⌝ }
-{
-    if b < 32 {
-        return false;
-    }
-    if 127 < b {
-        return false;
-    }
-    b != 92
-}
 
 // A print with one byte more.
 fn with_byte(print: u32, b: u32) -> u32
@@ -248,7 +241,28 @@ fn with_code(print: u32, v: u32) -> u32
     with_byte(with_byte(two, 128 + v / 64 % 64), 128 + v % 64)
 }
 
-// The print of the text at p: 0 of an empty text alone.
+// A print with the bytes from a position up to an end more.
+fn print_bytes(s: &[u8], from: usize, end: usize, start: u32) -> u32
+    requires { ⌜ end ≤ length (now s) ⌝ }
+    ensures { λ r. ⌜ r ≡ printFrom start (part (now (s .entry)) from end) ⌝ }
+{
+    let mut print = start;
+    let mut i = from;
+    while i < end {
+        print = with_byte(print, s[i] as u32);
+        i += 1;
+    }
+    print
+}
+
+// The print of a text that is given by its bytes.
+pub fn print_of(t: &[u8]) -> u32
+    ensures { λ r. ⌜ r ≡ printFrom 0 (now (t .entry)) ⌝ }
+{
+    print_bytes(t, 0, t.len(), 0)
+}
+
+// The print of the text at p: 0 of an empty text alone. Bytes that stand for themselves are taken in a row.
 pub fn print_at(s: &[u8], p: usize) -> u32
     ensures { λ r. ⌜ r ≡ printAt (now (s .entry)) p ⌝ }
 {
@@ -258,16 +272,12 @@ pub fn print_at(s: &[u8], p: usize) -> u32
     let mut i = p + 1;
     let mut print: u32 = 0;
     loop {
-        let b = text::byte(s, i);
-        if b == 34 {
+        let k = text::past_raw(s, i);
+        print = print_bytes(s, i, k, print);
+        if text::byte(s, k) == 34 {
             return print;
         }
-        if ordinary(b) {
-            print = with_byte(print, b);
-            i += 1;
-            continue;
-        }
-        match text::character(s, i) {
+        match text::character(s, k) {
             text::Code::Of(v, j) => {
                 print = with_code(print, v);
                 i = j;

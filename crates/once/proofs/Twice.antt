@@ -28,7 +28,8 @@ use Rattle.manifest.specs.laws.Bools.{halves}
 use Rattle.index.specs.Index.{colOf, itemOf, entriesIn, itemsIn, textAt, textCell, idCell, listed, entryBy, entryAt, manifestOf}
 use Rattle.index.specs.laws.Entries.{from, any-past, any-found, any-on, entryCell, entries-are}
 use Rattle.once.specs.laws.Parts.{inEntry, idsFrom, pathBefore, idOf, idsIn, Numbered, Told}
-use Rattle.named.specs.laws.Prints.{printAt, other-print, same-none, same-some}
+use Rattle.named.specs.Prints.{printAt}
+use Rattle.named.specs.laws.Prints.{other-print, same-none, same-some}
 use Rattle.once.proofs.Loops.{applies-in}
 use Rattle.once.proofs.Cells.{at-none, at-some}
 use Rattle.once.proofs.Ids.{Out-of-64, below, above, id-none, id-in, id-out, id-wrong}

@@ -8,8 +8,8 @@ ghost use Rattle.json.specs.Tree.{same};
 ghost use Rattle.manifest.specs.Rows.{the, holds, any, ids};
 ghost use Rattle.manifest.specs.Rules.{applies, first, no-id, same-id, twice-in, refusal-14-id-out-of-range, refusal-15-path-or-id-twice, refusal-16-clocks-without-sync-to, refusal-17-machine-without-file, refusal-18-sync-to-without-file};
 ghost use Rattle.index.specs.Index.{entriesIn, itemsIn, textAt, textCell, idCell, entryAt, manifestOf};
-ghost use Rattle.named.specs.laws.Prints.{printAt};
-ghost use Rattle.named.specs.laws.Tables.{pathPrints};
+ghost use Rattle.named.specs.Prints.{printAt};
+ghost use Rattle.named.specs.Prints.{pathPrints};
 ghost use Rattle.once.specs.Once.{once-rules};
 ghost use Rattle.once.specs.laws.Parts.{inEntry, pathBefore, idOf, idsIn, Numbered, Told};
 

@@ -5,14 +5,15 @@ use mathlib.Core.List.{List, [], _∷_}
 use Prim.Native.Nat.{ℕ, zero, suc, _+_, _-_, _≤_, _<_}
 use native.Mathlib.Omega.{arith}
 use native.Mathlib.Numerals.{add-one}
-use lib.ListN.{take, drop, getD}
+use lib.ListN.{length, take, drop, getD}
 use lib.Seq.{drop-cons}
-use Rattle.text.specs.Reading.{Text, pick}
+use Rattle.text.specs.Reading.{Text, Out, pick, peek}
+use Rattle.text.specs.laws.Strings.{string-none}
 use Rattle.json.specs.Tree.{same}
 use Rattle.values.specs.Strings.{sameAs}
 use Rattle.manifest.specs.Rows.{firstOr}
 use Rattle.manifest.specs.Rules.{clock-names, domain}
-use Rattle.outline.specs.Outline.{textAt, domainAt}
+use Rattle.outline.specs.Outline.{textIn, textAt, domainAt}
 use Rattle.outline.specs.laws.Names.{names, same-text}
 
 abbrev pub bounds : List ℕ
@@ -28,11 +29,11 @@ six P a b c d e f (suc (suc (suc (suc zero)))) l = e
 six P a b c d e f (suc (suc (suc (suc (suc zero))))) l = f
 six P a b c d e f (suc (suc (suc (suc (suc (suc k)))))) l = absurd (omega arith)
 
--- the bounds rise, within the string
-rises : (k : ℕ) → k < 6 → (getD bounds k 0 ≤ getD bounds (suc k) 0) × (getD bounds (suc k) 0 ≤ 69)
-rises = six (λ k. (getD bounds k 0 ≤ getD bounds (suc k) 0) × (getD bounds (suc k) 0 ≤ 69)) (omega arith, omega arith) (omega arith, omega arith) (omega arith, omega arith) (omega arith, omega arith) (omega arith, omega arith) (omega arith, omega arith)
+-- the bounds rise, within the string: no name is empty
+rises : (k : ℕ) → k < 6 → (getD bounds k 0 < getD bounds (suc k) 0) × (getD bounds (suc k) 0 ≤ 69)
+rises = six (λ k. (getD bounds k 0 < getD bounds (suc k) 0) × (getD bounds (suc k) 0 ≤ 69)) (omega arith, omega arith) (omega arith, omega arith) (omega arith, omega arith) (omega arith, omega arith) (omega arith, omega arith) (omega arith, omega arith)
 
-pub rise : (k : ℕ) → k < 6 → (getD bounds k 0 ≤ getD bounds (k + 1) 0) × (getD bounds (k + 1) 0 ≤ 69)
+pub rise : (k : ℕ) → k < 6 → (getD bounds k 0 < getD bounds (k + 1) 0) × (getD bounds (k + 1) 0 ≤ 69)
 rise k h = rw add-one (rises k h)
 
 -- between two of them stands the name with that number, which is not empty
@@ -51,6 +52,20 @@ piece =
     (record { byte = _; more = _; named = refl; stands = refl })
     (record { byte = _; more = _; named = refl; stands = refl })
     (record { byte = _; more = _; named = refl; stands = refl })
+
+module _ (k : ℕ) (h : k < 6) {from to : ℕ} (ef : from ≡ getD bounds k 0) (et : to ≡ getD bounds (k + 1) 0) {all : Text} (ea : all ≡ names) where
+  cut-out : take (to - from) (drop from all) ≡ piece k h .byte ∷ piece k h .more
+  cut-out =
+      let e : to ≡ getD bounds (suc k) 0 = et ∙ ap (λ (n : ℕ). getD bounds n 0) (add-one k) in
+      (λ i. take (e i - ef i) (drop (ef i) (ea i))) ∙ piece k h .stands
+
+  pub some-byte : 0 < length (take (to - from) (drop from all))
+  some-byte = let e : length (take (to - from) (drop from all)) ≡ suc (length (piece k h .more)) = ap length cut-out in omega arith
+
+-- where no string stands, none of the names does
+pub no-clock : (s : Text) (p : ℕ) → (peek s p ≡ 34 → ⊥) → 0 ≡ domainAt s p
+unfolding domainAt textAt textIn domain firstOr same pick
+no-clock s p h = ap (λ (o : Out Text). domain (textIn o)) (sym (string-none s p h))
 
 -- the names from the k-th on decide
 pub record Left (s : Text) (p k number : ℕ) : Type 0 where
@@ -73,8 +88,7 @@ module _ (s : Text) (p k number : ℕ) (l : Left s p k number) where
     is-name : r ≡ same (textAt s p) (getD clock-names k [])
     is-name =
         let w = piece k h in
-        let e : to ≡ getD bounds (suc k) 0 = et ∙ ap (λ (n : ℕ). getD bounds n 0) (add-one k) in
-        er ∙ (λ i. sameAs s p (take (e i - ef i) (drop (ef i) (ea i)))) ∙ ap (sameAs s p) (w .stands) ∙ same-text s p (w .byte) (w .more) ∙ ap (same (textAt s p)) (sym (w .named))
+        er ∙ ap (sameAs s p) (cut-out k h ef et ea) ∙ same-text s p (w .byte) (w .more) ∙ ap (same (textAt s p)) (sym (w .named))
 
     here : domainAt s p ≡ pick r (suc k) (firstOr 0 (same (textAt s p)) (drop (suc k) clock-names) (suc (suc k)))
     unfolding firstOr

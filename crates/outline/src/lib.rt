@@ -1,6 +1,10 @@
 // The outline of a manifest's bytes: its start bytes (2), its outermost object (5), its version (6, 7), and the number of a clock's name.
 // Each question is answered on every text, at every position.
 ghost use mathlib.Core.Path.{_≡_};
+ghost use Prim.Native.Nat.{_+_, _<_};
+ghost use lib.ListN.{length};
+ghost use Rattle.text.specs.Reading.{peek};
+ghost use Rattle.values.specs.Strings.{sameAs};
 ghost use Rattle.places.specs.Places.{nextMember};
 ghost use Rattle.manifest.specs.Manifest.{starts};
 ghost use Rattle.outline.specs.Outline.{alone as aloneOf, rootAt, not-1-at, versionsAt, domainAt};
@@ -104,17 +108,42 @@ pub fn versions(s: &[u8], at: usize) -> u8
     }
 }
 
+// A byte as `text::byte` gives it.
+fn wide(b: u8) -> u32
+    ensures { λ r. ⌜ r ≡ b ⌝ }
+{
+    b as u32
+}
+
+// Whether the string at a position, past whose quote the byte `first` stands, is this name. What is not escaped begins with that byte, so that most names
+// are settled by it alone.
+fn is_named(s: &[u8], at: usize, first: u32, name: &[u8]) -> bool
+    requires { ⌜ (first ≡ peek (now s) (at + 1)) × (0 < length (now name)) ⌝ }
+    ensures { λ r. ⌜ r ≡ sameAs (now (s .entry)) at (now (name .entry)) ⌝ }
+{
+    if first != 92 {
+        if first != wide(name[0]) {
+            return false;
+        }
+    }
+    values::same_as(s, at, name)
+}
+
 // The number of the clock whose name is the string at a position, given all names one after the other: each is lent where it stands among them.
 fn numbered(s: &[u8], at: usize, names: &[u8]) -> u8
     requires { ⌜ now names ≡ allNames ⌝ }
     ensures { λ r. ⌜ r ≡ domainAt (now (s .entry)) at ⌝ }
 {
+    if text::byte(s, at) != 34 {
+        return 0;
+    }
+    let first = text::byte(s, at + 1);
     let mut k: usize = 0;
     let mut number: u8 = 1;
     while k < 6 {
         let from = STARTS[k];
         let end = STARTS[k + 1];
-        if values::same_as(s, at, &names[from..end]) {
+        if is_named(s, at, first, &names[from..end]) {
             return number;
         }
         k += 1;

@@ -1,14 +1,13 @@
--- The state of a breadth-first search with a queue, and what each move of the search does to it, over plain lists.
-use Prim.Native.Nat.{ℕ, zero, suc, _+_, _*_, _-_, _≤_, _<_, zero-le}
-use native.Mathlib.Nat.{suc-mul, le-of-suc-le-suc, not-suc-le-zero, eq-or-lt-of-le}
+-- What each move of a breadth-first search with a queue does to its state, over plain lists.
+use Prim.Native.Nat.{ℕ, zero, suc, _+_, _≤_, _<_, zero-le}
+use native.Mathlib.Nat.{le-of-suc-le-suc, not-suc-le-zero, eq-or-lt-of-le}
 use native.Mathlib.Numerals.{add-one}
 use native.Mathlib.Omega.{arith}
 use native.Mathlib.Decide.{ℕ-discrete}
-use mathlib.Core.Bool.{true, cond}
+use mathlib.Core.Bool.{true}
 use mathlib.Core.Path.{_≡_, refl, sym, ap, _∙_, subst}
 use mathlib.Core.Logic.{_⊎_, inl, inr, ⊎-elim}
 use mathlib.Core.List.{List, [], _∷_}
-use lib.Dec.{eqb}
 use lib.ListN.{length, getD, set, replicate, length-set, length-replicate, getD-replicate}
 use lib.Seq.{getD-set-same, getD-set-other}
 use borrow.Author.Tests.{eq-eqb, ne-eqb}
@@ -16,14 +15,9 @@ use borrow.Author.Count.{below-more}
 use Rattle.paths.specs.Paths.{Net, reach}
 use Rattle.paths.specs.laws.Reach.{reach-step, reach-here}
 use Rattle.paths.specs.laws.Cert.{Closed, Cert}
+use Rattle.paths.specs.laws.Queue.{unset, Waits, State}
 use Rattle.paths.specs.laws.Listed.{Sources, Stands}
 use Rattle.paths.specs.laws.Listed.Counts.{leads}
-
--- how many of the first m elements are far
-unfoldable pub unset : ℕ → List ℕ → ℕ → ℕ
-unset far ds zero = zero
-unset far [] (suc m) = zero
-unset far (x ∷ ds) (suc m) = cond (eqb x far) 1 0 + unset far ds m
 
 pub unset-set : (far : ℕ) (ds : List ℕ) (m e v : ℕ) → e < m → e < length ds → getD ds e 0 ≡ far → (v ≡ far → ⊥) → unset far ds m ≡ suc (unset far (set ds e v) m)
 unfolding unset
@@ -37,32 +31,6 @@ unfolding unset
 unset-all far k zero h = refl
 unset-all far zero (suc m) h = absurd (not-suc-le-zero h)
 unset-all far (suc k) (suc m) h = rw (eq-eqb far far refl) (omega (arith, unset-all far k m (le-of-suc-le-suc h)))
-
--- i stands in the queue, not yet expanded
-pub record Waits (qs : List ℕ) (head tail i : ℕ) : Type 0 where
-  pub at : ℕ
-  pub from : head ≤ at
-  pub below : at < tail
-  pub here : getD qs at 0 ≡ i
-
-pub record State (g : Net) (cap : ℕ) (ds qs : List ℕ) (head tail : ℕ) : Type 0 where
-  pub fits : g .size < g .far
-  pub goal-in : g .goal < g .size
-  pub big : g .size ≤ cap
-  pub room-d : length ds ≡ cap
-  pub room-q : length qs ≡ cap
-  pub order : head ≤ tail
-  pub count : tail + unset (g .far) ds (g .size) ≡ g .size
-  pub goal-zero : getD ds (g .goal) 0 ≡ 0
-  pub bound : (i : ℕ) → i < g .size → getD ds i 0 ≤ g .far
-  pub small : (i : ℕ) → i < g .size → getD ds i 0 < g .far → getD ds i 0 < tail
-  pub sound : (i : ℕ) → i < g .size → getD ds i 0 < g .far → reach g (getD ds i 0) i ≡ true
-  pub inside : (i : ℕ) → i < tail → getD qs i 0 < g .size
-  pub known : (i : ℕ) → i < tail → getD ds (getD qs i 0) 0 < g .far
-  pub sorted : (i j : ℕ) → i ≤ j → j < tail → getD ds (getD qs i 0) 0 ≤ getD ds (getD qs j 0) 0
-  pub top : head < tail → (i : ℕ) → i < g .size → getD ds i 0 < g .far → getD ds i 0 ≤ getD ds (getD qs head 0) 0 + 1
-  pub shut : (i : ℕ) → i < g .size → getD ds i 0 < g .far → Waits qs head tail i ⊎ Closed g (λ j. getD ds j 0) i
-  pub past : (i : ℕ) → g .size ≤ i → i < cap → getD ds i 0 ≡ g .far
 
 -- of the clocks in the list the first d have been looked at from the clock c that is expanded
 abbrev pub Seen : Net → List ℕ → List ℕ → ℕ → ℕ → Type 0
@@ -272,79 +240,72 @@ module _ (g : Net) (cap : ℕ) (fits : g .size < g .far) (big : g .size ≤ cap)
     past = λ i m l. getD-set-other (replicate cap (g .far)) (g .goal) i 0 0 (λ q. omega arith) ∙ getD-replicate cap i (g .far) 0 l;
   }
 
--- a turn begins: of the m clocks that count, listed in ls, the first d have been looked at from the head of the queue
-pub record Turn (g : Net) (cap : ℕ) (ls : List ℕ) (m : ℕ) (ds qs : List ℕ) (head tail d : ℕ) : Type 0 where
+-- no more clocks come to the queue than there are
+pub tail-few : {g : Net} {cap : ℕ} {ds qs : List ℕ} {head tail : ℕ} → State g cap ds qs head tail → tail ≤ g .size
+tail-few s = omega (arith, s .count)
+
+pub head-small : {g : Net} {cap : ℕ} {ds qs : List ℕ} {head tail : ℕ} → State g cap ds qs head tail → head < tail → getD ds (getD qs head 0) 0 < tail
+head-small {qs} {head} s h = s .small (getD qs head 0) (s .inside head h) (s .known head h)
+
+-- a turn: of the m clocks that count, listed in ls, the first d have been looked at from the clock c at the head of the queue, and k is what such a clock gets
+pub record Turn (g : Net) (cap : ℕ) (ls : List ℕ) (m : ℕ) (ds qs : List ℕ) (head tail c k d : ℕ) : Type 0 where
   pub state : State g cap ds qs head tail
-  pub seen : Seen g ls ds (getD qs head 0) d
-  pub upto : d ≤ m
   pub listed : Sources g ls m
+  pub upto : d ≤ m
+  pub waits : head < tail
+  pub first : getD qs head 0 ≡ c
+  pub more : getD ds c 0 + 1 ≡ k
+  pub seen : Seen g ls ds c d
 
-pub turn-start : (g : Net) (cap : ℕ) {ls : List ℕ} {m : ℕ} → g .size < g .far → g .size ≤ cap → g .goal < g .size → Sources g ls m
-    → Turn g cap ls m (set (replicate cap (g .far)) (g .goal) 0) (set (replicate cap 0) 0 (g .goal)) 0 1 0
-turn-start g cap f b h s = record { state = start g cap f b h; seen = λ j m b. absurd (omega arith); upto = zero-le; listed = s }
+pub turn-start : {g : Net} {cap : ℕ} {ls : List ℕ} {m : ℕ} {ds qs : List ℕ} {head tail : ℕ} → State g cap ds qs head tail → Sources g ls m → head < tail
+    → Turn g cap ls m ds qs head tail (getD qs head 0) (getD ds (getD qs head 0) 0 + 1) 0
+turn-start s l h = record { state = s; listed = l; upto = zero-le; waits = h; first = refl; more = refl; seen = λ j m b. absurd (omega arith) }
 
-module _ {g : Net} {cap : ℕ} {ls : List ℕ} {m : ℕ} {ds qs : List ℕ} {head tail d : ℕ} (s : Turn g cap ls m ds qs head tail d) where
-  -- the queue has run out
-  pub turn-done : tail ≤ head → Cert g (λ i. getD ds i 0)
-  turn-done h = done (s .state) h
+module _ {g : Net} {cap : ℕ} {ls : List ℕ} {m : ℕ} {ds qs : List ℕ} {head tail c k d : ℕ} (s : Turn g cap ls m ds qs head tail c k d) where
+  pub clock-in : c < g .size
+  clock-in = rw (s .first) at (s .state .inside head (s .waits))
 
-  pub turn-tail : tail ≤ g .size
-  turn-tail = omega (arith, s .state .count)
+  -- all have been looked at: from a clock that isn't listed no pair leads to the head
+  pub turn-end : m ≤ d → State g cap ds qs (head + 1) tail
+  turn-end e = advance (s .state) (s .waits) (rw (s .first) (λ j l b. looked j b (s .listed .all j l (leads c clock-in b))))
+    where
+      looked : (j : ℕ) → g .adj j c ≡ true → Stands ls m j → getD ds j 0 ≤ getD ds c 0 + 1
+      looked j b w = (rw (w .2) at (s .seen (w .0) (omega (arith, w .1)))) b
 
-  module _ (h : head < tail) where
-    pub head-in : getD qs head 0 < g .size
-    head-in = s .state .inside head h
+  module _ (l : d < m) where
+    pub here-in : getD ls d 0 < g .size
+    here-in = s .listed .below d l
 
-    pub head-small : getD ds (getD qs head 0) 0 < tail
-    head-small = s .state .small (getD qs head 0) head-in (s .state .known head h)
+    pub here-fits : getD ls d 0 < cap
+    here-fits = omega (arith, here-in, s .state .big)
 
-    -- all have been looked at: from a clock that isn't listed no pair leads to the head
-    pub turn-next : d ≡ m → Turn g cap ls m ds qs (head + 1) tail 0
-    turn-next e = record {
-      state = advance (s .state) h (λ j l b. looked j b (s .listed .all j l (leads (getD qs head 0) head-in b)));
-      seen = λ j m b. absurd (omega arith);
-      upto = zero-le;
+    -- no pair leads from the clock to the head, or it has a distance
+    pub turn-skip : (g .adj (getD ls d 0) c ≡ true → getD ds (getD ls d 0) 0 ≡ g .far → ⊥) → Turn g cap ls m ds qs head tail c k (d + 1)
+    turn-skip n = record {
+      state = s .state;
       listed = s .listed;
+      upto = omega arith;
+      waits = s .waits;
+      first = s .first;
+      more = s .more;
+      seen = below-more _ d (s .seen) (λ b. near (ℕ-discrete (getD ds (getD ls d 0) 0) (g .far)) b);
     }
       where
-        looked : (j : ℕ) → g .adj j (getD qs head 0) ≡ true → Stands ls m j → getD ds j 0 ≤ getD ds (getD qs head 0) 0 + 1
-        looked j b w = (rw (w .2) at (s .seen (w .0) (omega (arith, w .1)))) b
+        near : Dec (getD ds (getD ls d 0) 0 ≡ g .far) → g .adj (getD ls d 0) c ≡ true → getD ds (getD ls d 0) 0 ≤ getD ds c 0 + 1
+        near (yes q) b = absurd (n b q)
+        near (no q) b = rw (s .first) at (s .state .top (s .waits) (getD ls d 0) here-in (omega (arith, s .state .bound (getD ls d 0) here-in)))
 
-    module _ (not-all : d ≡ m → ⊥) where
-      more : d < m
-      more = omega (arith, s .upto)
+    module _ (u : getD ds (getD ls d 0) 0 ≡ g .far) where
+      pub turn-room : tail < cap
+      turn-room = omega (arith, room (s .state) (s .waits) here-in u, s .state .big)
 
-      pub here-in : getD ls d 0 < g .size
-      here-in = s .listed .below d more
-
-      -- the clock has a distance, or no pair leads from it to the head
-      pub turn-skip : (g .adj (getD ls d 0) (getD qs head 0) ≡ true → getD ds (getD ls d 0) 0 ≡ g .far → ⊥) → Turn g cap ls m ds qs head tail (d + 1)
-      turn-skip n = record {
-        state = s .state;
-        seen = below-more _ d (s .seen) (λ b. near (ℕ-discrete (getD ds (getD ls d 0) 0) (g .far)) b);
-        upto = omega (arith, more);
+      pub turn-put : g .adj (getD ls d 0) c ≡ true → Turn g cap ls m (set ds (getD ls d 0) k) (set qs tail (getD ls d 0)) head (tail + 1) c k (d + 1)
+      turn-put a = rw (sym (s .more), sym (s .first)) (record {
+        state = put (s .state) (s .waits) here-in u (rw (s .first) a);
         listed = s .listed;
-      }
-        where
-          near : Dec (getD ds (getD ls d 0) 0 ≡ g .far) → g .adj (getD ls d 0) (getD qs head 0) ≡ true → getD ds (getD ls d 0) 0 ≤ getD ds (getD qs head 0) 0 + 1
-          near (yes q) b = absurd (n b q)
-          near (no q) b = s .state .top h (getD ls d 0) here-in (omega (arith, s .state .bound (getD ls d 0) here-in))
-
-      module _ (u : getD ds (getD ls d 0) 0 ≡ g .far) where
-        pub turn-room : tail < g .size
-        turn-room = room (s .state) h here-in u
-
-        pub turn-put : g .adj (getD ls d 0) (getD qs head 0) ≡ true
-            → Turn g cap ls m (set ds (getD ls d 0) (getD ds (getD qs head 0) 0 + 1)) (set qs tail (getD ls d 0)) head (tail + 1) (d + 1)
-        turn-put a = record {
-          state = put (s .state) h here-in u a;
-          seen = rw (head-kept (s .state) h here-in u) (seen-put (s .state) h here-in u ls d refl (s .seen));
-          upto = omega (arith, more);
-          listed = s .listed;
-        }
-
--- what is left to look at gets less when the next clock comes to the head
-pub left-next : (n m head d : ℕ) → head < n → (n - (head + 1)) * suc m + (m - 0) < (n - head) * suc m + (m - d)
-left-next n m head d h =
-    let e : n - head ≡ suc (n - (head + 1)) = omega arith in
-    rw e (omega (arith, suc-mul (n - (head + 1)) (suc m)))
+        upto = omega arith;
+        waits = omega (arith, s .waits);
+        first = head-kept (s .state) (s .waits) here-in u;
+        more = ap (λ (j : ℕ). j + 1) (dist-kept (s .state) (s .waits) here-in u);
+        seen = seen-put (s .state) (s .waits) here-in u ls d refl (rw (s .first) (s .seen));
+      })

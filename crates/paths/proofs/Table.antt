@@ -15,7 +15,8 @@ use Rattle.paths.specs.laws.Reach.{outside}
 use Rattle.paths.specs.laws.Cert.{cert-dist}
 use Rattle.paths.specs.laws.Table.{distances-is, nexts-is}
 use Rattle.paths.specs.laws.Graph.{graph-held, graph-empty}
-use Rattle.paths.proofs.Queue.{Turn, turn-done}
+use Rattle.paths.specs.laws.Queue.{State}
+use Rattle.paths.proofs.Queue.{done}
 
 -- no graph: the array as it was filled
 pub table-empty : (m : List ℕ) (n t : ℕ) → isGraph m n t ≡ false → replicate clocks far ≡ distances (graphOf m n t)
@@ -24,13 +25,13 @@ table-empty m n t e =
     (distances-is empty (replicate clocks far) (length-replicate clocks far) (λ c h. getD-replicate clocks c far 0 h ∙ sym (outside empty c zero-le)))
 
 -- a graph: the array when the queue has run out
-pub table-done : (m : List ℕ) (n t : ℕ) {ls : List ℕ} {w : ℕ} {ds qs : List ℕ} {head tail d : ℕ} → isGraph m n t ≡ true → Turn (held m n t) clocks ls w ds qs head tail d → tail ≤ head → ds ≡ distances (graphOf m n t)
+pub table-done : (m : List ℕ) (n t : ℕ) {ds qs : List ℕ} {head tail : ℕ} → isGraph m n t ≡ true → State (held m n t) clocks ds qs head tail → tail ≤ head → ds ≡ distances (graphOf m n t)
 table-done m n t {ds} e s h =
-    rw (graph-held m n t e) (distances-is (held m n t) ds (s .state .room-d) (λ c l. at c l (decLt c n)))
+    rw (graph-held m n t e) (distances-is (held m n t) ds (s .room-d) (λ c l. at c l (decLt c n)))
   where
     at : (c : ℕ) → c < clocks → Dec (c < n) → getD ds c 0 ≡ dist (held m n t) c
-    at c l (yes k) = cert-dist (turn-done s h) c k
-    at c l (no k) = s .state .past c (omega arith) l ∙ sym (outside (held m n t) c (omega arith))
+    at c l (yes k) = cert-dist (done s h) c k
+    at c l (no k) = s .past c (omega arith) l ∙ sym (outside (held m n t) c (omega arith))
 
 -- the first c elements are the next clocks
 pub record Filled (g : Net) (ns : List ℕ) (c : ℕ) : Type 0 where

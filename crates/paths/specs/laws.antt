@@ -9,3 +9,4 @@ pub mod Table
 pub mod Graph
 pub mod Traced
 pub mod Listed
+pub mod Queue

@@ -2,12 +2,14 @@
 ghost use mathlib.Core.Path.{_≡_};
 ghost use mathlib.Core.Bool.{false};
 ghost use mathlib.Core.List.{_++_};
-ghost use Prim.Native.Nat.{ℕ, _*_, _≤_, _<_};
+ghost use Prim.Native.Nat.{ℕ, _+_, _*_, _≤_, _<_};
 ghost use lib.ListN.{length, getD, drop, replicate};
 ghost use Rattle.numbers.specs.Numbers.{clocks};
 ghost use Rattle.paths.specs.Paths.{next};
 ghost use Rattle.paths.specs.Matrix.{pairOf, isGraph, held, graphOf, distances, nexts, along, traced};
+ghost use Rattle.paths.specs.laws.Graph.{Whole};
 ghost use Rattle.paths.specs.laws.Listed.{Counts, Bare, Sources};
+ghost use Rattle.paths.specs.laws.Queue.{State};
 
 // No path: more than any distance.
 const FAR: u16 = 65535;
@@ -103,8 +105,44 @@ fn list_sources(matrix: &[u8], n: usize, target: usize, out: &mut [u16]) -> usiz
     count
 }
 
+// Gives each listed clock that has no distance, and from which a pair leads to the clock at the queue's head, one more than that clock's, and
+// puts it at the queue's end; answers where the queue ends then. The pair is asked for first, since most are not there. Only the contract speaks
+// of the target.
+fn expand(
+    matrix: &[u8],
+    n: usize,
+    target: usize,
+    list: &[u16],
+    count: usize,
+    dist: &mut [u16; numbers::CLOCKS],
+    queue: &mut [u16; numbers::CLOCKS],
+    head: usize,
+    end: usize,
+) -> usize
+    requires { ⌜ Whole (now matrix) n target × Sources (held (now matrix) n target) (now list) count × (length (now list) ≡ clocks) ⌝ }
+    requires { ⌜ (head < end) × State (held (now matrix) n target) clocks (now dist) (now queue) head end ⌝ }
+    ensures { λ r. ⌜ State (held (now (matrix .entry)) n target) clocks (now (dist .exit)) (now (queue .exit)) (head + 1) r ⌝ }
+{
+    let c = queue[head] as usize;
+    let k = dist[c] + 1;
+    let mut tail = end;
+    let mut d: usize = 0;
+    while d < count {
+        let e = list[d] as usize;
+        d += 1;
+        if pair(matrix, n, e, c) {
+            if dist[e] == FAR {
+                dist[e] = k;
+                queue[tail] = e as u16;
+                tail += 1;
+            }
+        }
+    }
+    tail
+}
+
 // The distance of each clock, breadth first from the target. The queue holds the clocks that have a distance, in the order in which
-// they got it; each turn looks whether a pair leads from one clock of the list to the clock at the queue's head.
+// they got it; each turn looks from which clocks of the list a pair leads to the clock at the queue's head.
 fn distances(
     matrix: &[u8],
     n: usize,
@@ -124,23 +162,19 @@ fn distances(
     queue[0] = target as u16;
     let mut head: usize = 0;
     let mut tail: usize = 1;
-    let mut d: usize = 0;
     while head < tail {
-        if d == count {
-            head += 1;
-            d = 0;
-        } else {
-            let c = queue[head] as usize;
-            let e = list[d] as usize;
-            d += 1;
-            if dist[e] == FAR {
-                if pair(matrix, n, e, c) {
-                    dist[e] = dist[c] + 1;
-                    queue[tail] = e as u16;
-                    tail += 1;
-                }
-            }
-        }
+        tail = expand(
+            matrix,
+            n,
+            target,
+            list,
+            count,
+            &mut dist,
+            &mut queue,
+            head,
+            tail,
+        );
+        head += 1;
     }
     dist
 }

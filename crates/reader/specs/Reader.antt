@@ -1,4 +1,4 @@
--- What reading a manifest leaves: the tables of its index and of its names, and what they say. Assumes nothing.
+-- What reading a manifest leaves: the tables of its index and of what is looked up in it, and what they say. Assumes nothing.
 use mathlib.Core.List.{List}
 use Prim.Native.Nat.{ℕ}
 use lib.Dec.{eqb}
@@ -10,15 +10,15 @@ use Rattle.manifest.specs.Manifest.{refusalOf}
 use Rattle.outline.specs.Outline.{rootAt}
 use Rattle.index.specs.Index.{manifestOf}
 use Rattle.survey.specs.Survey.{indexFrom}
-use Rattle.named.specs.Named.{nameTable}
+use Rattle.finds.specs.Finds.{lookups}
 
 -- the index of an accepted manifest; zeros for a refused one, and for none
 unfoldable pub tableOf : Text → List ℕ
 tableOf s = pick (eqb (refusalOf s) 0) (indexFrom s (rootAt s)) (replicate 2470 0)
 
--- its names' table
-unfoldable pub namesOf : Text → List ℕ
-namesOf s = nameTable s (tableOf s)
+-- what is looked up in it
+unfoldable pub lookupsOf : Text → List ℕ
+lookupsOf s = lookups s (tableOf s)
 
 -- what a table says
 unfoldable pub meaningBy : Text → List ℕ → Meaning

@@ -6,8 +6,8 @@ use Rattle.manifest.specs.View.{one}
 use Rattle.manifest.specs.Rules.{refusal-5-or-later}
 use Rattle.manifest.specs.Manifest.{refusalOf, meaningOf}
 use Rattle.index.specs.Index.{manifestOf}
-use Rattle.reader.specs.Reader.{tableOf, namesOf, meaningBy}
-use Rattle.reader.specs.laws.Tables.{zeros, refused-zeros, none-zeros, zeros-names}
+use Rattle.reader.specs.Reader.{tableOf, lookupsOf, meaningBy}
+use Rattle.reader.specs.laws.Tables.{zeros, refused-zeros, none-zeros, zeros-lookups}
 use Rattle.reader.specs.laws.Meant.{table-meaning, table-refusal, table-long}
 
 -- a table has 2470 numbers, whatever the text is
@@ -23,8 +23,8 @@ pub table-accepted : (s : Text) → refusalOf s ≡ 0 → refusal-5-or-later (on
 table-accepted s e = table-refusal s e
 
 -- a refusal leaves zeros in both tables, and so do no bytes
-pub refused-leaves-zeros : (s : Text) → (refusalOf s ≡ 0 → ⊥) → (tableOf s ≡ replicate 2470 0) × (namesOf s ≡ replicate 32 0)
-refused-leaves-zeros s some = let z : tableOf s ≡ zeros = refused-zeros s refl some in (z, zeros-names s z)
+pub refused-leaves-zeros : (s : Text) → (refusalOf s ≡ 0 → ⊥) → (tableOf s ≡ replicate 2470 0) × (lookupsOf s ≡ replicate 96 0)
+refused-leaves-zeros s some = let z : tableOf s ≡ zeros = refused-zeros s refl some in (z, zeros-lookups s z)
 
-pub nothing-leaves-zeros : (s : Text) → length s ≡ 0 → (tableOf s ≡ replicate 2470 0) × (namesOf s ≡ replicate 32 0)
-nothing-leaves-zeros s none = let z : tableOf s ≡ zeros = none-zeros s none in (z, zeros-names s z)
+pub nothing-leaves-zeros : (s : Text) → length s ≡ 0 → (tableOf s ≡ replicate 2470 0) × (lookupsOf s ≡ replicate 96 0)
+nothing-leaves-zeros s none = let z : tableOf s ≡ zeros = none-zeros s none in (z, zeros-lookups s z)

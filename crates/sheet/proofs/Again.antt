@@ -14,11 +14,10 @@ use Rattle.bits.specs.laws.Number.{number-lt}
 use Rattle.bits.specs.laws.Fields.{take-in}
 use Rattle.bits.specs.declared.Taken.{Taken}
 use Rattle.records.specs.Layout.{pick, bytesAt, headHere, pathHere, fileHere, sourceHere, sizeOf}
-use Rattle.records.specs.Readers.{far, headAt, sourceAt, pathAt}
-use Rattle.records.specs.laws.Fields.{length-bytes, head-near, source-near}
+use Rattle.records.specs.Readers.{far, headAt, pathAt}
+use Rattle.records.specs.laws.Fields.{length-bytes, head-near}
 use Rattle.records.specs.declared.Head.{Head}
-use Rattle.records.specs.declared.Source.{Source}
-use Rattle.sheet.specs.Twice.{among, repeats, sameBytes, sameSource}
+use Rattle.sheet.specs.Twice.{among, repeats, sameBytes}
 use Rattle.sheet.specs.Places.{pathsFrom, every, sourcesFrom}
 
 -- ---- lists
@@ -119,19 +118,6 @@ module _ (s : List ℕ) where
   pub sources-none : (p : ℕ) {left : ℕ} → left ≡ 0 → sourcesFrom s p left ≡ []
   unfolding every
   sources-none p e = rw e
-
-  module _ {a p : ℕ} {x y : Source} (ex : x ≡ sourceAt s a) (ey : y ≡ sourceAt s p) (la : a < far) (lp : p < far) where
-    pair-is : sameSource (sourceHere s a) (sourceHere s p) ≡ (eqb (x .file .0) (y .file .0) && eqb (x .id) (y .id))
-    pair-is = rw (ex ∙ source-near s a la, ey ∙ source-near s p lp)
-
-    pub pair-hit : x .file .0 ≡ y .file .0 → x .id ≡ y .id → true ≡ sameSource (sourceHere s a) (sourceHere s p)
-    pair-hit f i = rw (pair-is, eq-eqb (x .file .0) (y .file .0) f, eq-eqb (x .id) (y .id) i)
-
-    pub pair-file : (x .file .0 ≡ y .file .0 → ⊥) → false ≡ sameSource (sourceHere s a) (sourceHere s p)
-    pair-file f = rw (pair-is, ne-eqb (x .file .0) (y .file .0) f)
-
-    pub pair-id : x .file .0 ≡ y .file .0 → (x .id ≡ y .id → ⊥) → false ≡ sameSource (sourceHere s a) (sourceHere s p)
-    pair-id f i = rw (pair-is, eq-eqb (x .file .0) (y .file .0) f, ne-eqb (x .id) (y .id) i)
 
 -- ---- a path and other bytes: what is left of both from byte i on
 module _ (s t : List ℕ) (at : ℕ) {h : Head} {n : ℕ} (eh : h ≡ headAt s at) (en : n ≡ h .length) where

@@ -5,6 +5,7 @@ pub mod Listed
 pub mod Places
 pub mod Repeats
 pub mod Prints
+pub mod Keys
 pub mod Decides
 pub mod Order
 pub mod Flags

@@ -2,14 +2,17 @@
 ghost use mathlib.Core.Path.{_≡_};
 ghost use Prim.Native.Nat.{_+_, _-_, _*_, _<_, _≤_};
 ghost use lib.ListN.{length};
-ghost use Rattle.records.specs.Layout.{bytesAt, pathHere, sourceHere, fileHere, sizeOf};
+ghost use lib.Dec.{eqb};
+ghost use Rattle.records.specs.Layout.{bytesAt, pathHere, fileHere, sizeOf};
 ghost use Rattle.records.specs.Readers.{pathAt};
 ghost use Rattle.sheet.specs.Twice.{sameBytes, sameSource, among, repeats};
 ghost use Rattle.sheet.specs.Places.{pathsFrom, sourcesFrom, placeOf, filePlaces};
 ghost use Rattle.sheet.specs.Sheets.{readOf};
 ghost use Rattle.sheet.specs.laws.Ended.{Held, endedOf, tableAt};
 ghost use Rattle.sheet.specs.laws.Prints.{step, printHere, Printed};
+ghost use Rattle.sheet.specs.laws.Keys.{keyOf, Keyed};
 use bits::Cursor;
+use records::Source;
 use records::State;
 use records::Step;
 
@@ -273,27 +276,39 @@ fn paths_twice(s: &[u8], n: usize) -> bool
     false
 }
 
-// Whether one of the n sources from bit position `from` on has the file and the id of the source at a.
-fn source_again(s: &[u8], a: usize, from: usize, n: usize) -> bool
-    requires { ⌜ (a < 0x1000000000) × (n ≤ 32) × (from + 40 * n < 0x1000000000) ⌝ }
-    ensures { λ r. ⌜ r ≡ among sameSource (sourceHere (now (s .entry)) a) (sourcesFrom (now (s .entry)) from n) ⌝ }
+// ---- the key of a source: its file and its id as one number, so that each source is read once and not with each other one
+
+// The key of a source. An id has 32 bits, so no two pairs of a file and an id have one key.
+fn key_of(x: Source) -> u64
+    ensures { λ r. ⌜ r ≡ keyOf x ⌝ }
 {
-    let x = records::source_at(s, a);
-    let f = x.file.0;
-    let i = x.id;
-    let mut p = from;
-    let mut left = n;
-    while 0 < left {
-        let y = records::source_at(s, p);
-        let g = y.file.0;
-        let j = y.id;
-        p += 40;
-        left -= 1;
-        if f == g {
-            if i == j {
-                return true;
-            }
+    byte(x.file.0) * 0x1_0000_0000 + x.id as u64
+}
+
+// The keys of the n sources from bit position `from` on.
+fn source_keys(s: &[u8], from: usize, n: usize) -> [u64; 32]
+    requires { ⌜ (n ≤ 32) × (from + 40 * n < 0x1000000000) ⌝ }
+    ensures { λ r. ⌜ Keyed (now (s .entry)) from r n ⌝ }
+{
+    let mut keys = [0u64; 32];
+    let mut source: usize = 0;
+    while source < n {
+        keys[source] = key_of(records::source_at(s, from + 40 * source));
+        source += 1;
+    }
+    keys
+}
+
+// Whether a key is one of some keys.
+fn is_among(key: u64, keys: &[u64]) -> bool
+    ensures { λ r. ⌜ r ≡ among eqb key (now (keys .entry)) ⌝ }
+{
+    let mut j: usize = 0;
+    while j < keys.len() {
+        if key == keys[j] {
+            return true;
         }
+        j += 1;
     }
     false
 }
@@ -303,15 +318,14 @@ fn sources_twice(s: &[u8], from: usize, n: usize) -> bool
     requires { ⌜ (n ≤ 32) × (from + 40 * n < 0x1000000000) ⌝ }
     ensures { λ r. ⌜ r ≡ repeats sameSource (sourcesFrom (now (s .entry)) from n) ⌝ }
 {
-    let mut p = from;
-    let mut left = n;
-    while 0 < left {
-        let a = p;
-        p += 40;
-        left -= 1;
-        if source_again(s, a, p, left) {
+    let keys = source_keys(s, from, n);
+    let mut source: usize = 0;
+    while source < n {
+        let later = source + 1;
+        if is_among(keys[source], &keys[later..n]) {
             return true;
         }
+        source = later;
     }
     false
 }

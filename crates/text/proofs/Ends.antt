@@ -35,7 +35,7 @@ code-done (done w k) {v} {j} e =
 code-done (bad k) e = cc
 code-done (deep k) e = cc
 
-code-bad : (o : Out ℕ) {p i : ℕ} → Past i o → codeOf o ≡ No p → o ≡ bad p
+pub code-bad : (o : Out ℕ) {p i : ℕ} → Past i o → codeOf o ≡ No p → o ≡ bad p
 unfolding codeOf
 code-bad (done w k) g e = cc
 code-bad (bad k) {p} g e = let a : k ≡ p = cc in rw a

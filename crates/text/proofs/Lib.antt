@@ -5,3 +5,4 @@ pub mod Quick
 pub mod Coded
 pub mod Ends
 pub mod Leads
+pub mod Several

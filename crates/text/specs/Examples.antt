@@ -4,11 +4,12 @@ use mathlib.Core.List.{[], _∷_}
 use Rattle.text.specs.Reading.{done, bad, next, pick, peek, count, run, part, word, scan}
 use Rattle.text.specs.Class.{classOf, whitespace, skip, digit}
 use Rattle.text.specs.Strings.{hexOf, escapeOf, pairOf, quad, low, joined, paired, escape, tail, second, two, three, four, classed, character, utf8, before, onward, characters, string}
+use Rattle.text.specs.Raw.{further, rawTurns, pastRaw}
 use Rattle.text.specs.Numbers.{digits, minus, sign, int, frac, exp, rest, written, number}
 
 -- what the examples compute with
 opened : Unit {0}
-unfolding next pick peek count run part word scan classOf whitespace skip digit hexOf escapeOf pairOf quad low joined paired escape tail second two three four classed character utf8 before onward characters string digits minus sign int frac exp rest written number
+unfolding next pick peek count run part word scan classOf whitespace skip digit hexOf escapeOf pairOf quad low joined paired escape tail second two three four classed character utf8 before onward characters string further rawTurns pastRaw digits minus sign int frac exp rest written number
 opened = tt
 
 -- "a\n"
@@ -88,3 +89,12 @@ cut-word = refl
 blanks : skip (32 ∷ 9 ∷ 10 ∷ 13 ∷ 12 ∷ []) 0 ≡ 4
 unfolding opened
 blanks = refl
+
+-- aé€ and then an escape, which is not passed; a letter and then a byte that begins no character
+raw-then-escape : pastRaw (97 ∷ 195 ∷ 169 ∷ 226 ∷ 130 ∷ 172 ∷ 92 ∷ 110 ∷ []) 0 ≡ 6
+unfolding opened
+raw-then-escape = refl
+
+raw-then-wrong : pastRaw (97 ∷ 169 ∷ 34 ∷ []) 0 ≡ 1
+unfolding opened
+raw-then-wrong = refl

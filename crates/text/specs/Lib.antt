@@ -2,6 +2,7 @@
 pub mod Reading
 pub mod Class
 pub mod Strings
+pub mod Raw
 pub mod Numbers
 pub mod Examples
 pub mod Theorems

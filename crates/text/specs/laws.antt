@@ -13,3 +13,4 @@ pub mod Stepwise
 pub mod Characters
 pub mod Strings
 pub mod Utf8
+pub mod Raw

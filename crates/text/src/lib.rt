@@ -8,9 +8,11 @@ ghost use lib.Count.{trailingZeros};
 ghost use Rattle.text.specs.Reading.{pick, peek, run, word, scan};
 ghost use Rattle.text.specs.Class.{classOf, skip, whitespace, digit as digitOf};
 ghost use Rattle.text.specs.Strings.{hexOf, escapeOf, pairOf, quad as quadOf, low as lowOf, paired as pairedOf, escape as escapeAt, second as secondOf, two as twoOf, three as threeOf, four as fourOf, character as characterOf, codeOf, characters, string as stringOf};
+ghost use Rattle.text.specs.Raw.{pastRaw};
 ghost use Rattle.text.specs.Numbers.{digits as digitsOf, minus as minusOf, sign as signOf, int as intOf, frac as fracOf, exp as expOf, rest as restOf, number as numberOf};
 ghost use Rattle.text.specs.laws.Marks.{marks};
 ghost use Rattle.text.specs.laws.Plain.{own, ownAt, pastOwn, Near};
+ghost use Rattle.text.specs.laws.Raw.{Wide};
 
 // Where a reading ends; or the first position after which no well-formed text is possible; or the byte that opens one level too many.
 pub enum Scan {
@@ -524,6 +526,66 @@ pub fn character(s: &[u8], at: usize) -> Code
         21 => four(s, at),
         _ => Code::No(at),
     }
+}
+
+// The same as `second`: after a first byte of two any byte that goes on a character may come.
+fn follows(b: u32, c: u32) -> bool
+    ensures { λ r. ⌜ r ≡ secondOf b c ⌝ }
+{
+    if b < 224 {
+        return c / 64 == 2;
+    }
+    second(b, c)
+}
+
+// How many bytes the character of several bytes at a position has; 0 where none stands. By comparing alone, and without its code point.
+fn wide(s: &[u8], at: usize) -> usize
+    requires { ⌜ (at < length (now s)) × (128 ≤ peek (now s) at) ⌝ }
+    ensures { λ r. ⌜ Wide (now (s .entry)) at r ⌝ }
+{
+    let b = byte(s, at);
+    if b < 194 {
+        return 0;
+    }
+    if 244 < b {
+        return 0;
+    }
+    if !follows(b, byte(s, at + 1)) {
+        return 0;
+    }
+    if b < 224 {
+        return 2;
+    }
+    if byte(s, at + 2) / 64 != 2 {
+        return 0;
+    }
+    if b < 240 {
+        return 3;
+    }
+    if byte(s, at + 3) / 64 == 2 { 4 } else { 0 }
+}
+
+// Past the characters at a position that stand for their own bytes: all but escapes. Up to the first that does not, or is none.
+pub fn past_raw(s: &[u8], at: usize) -> usize
+    ensures { λ r. ⌜ r ≡ pastRaw (now (s .entry)) at ⌝ }
+{
+    let mut i = at;
+    while i < s.len() {
+        let b = s[i];
+        if b < 128 {
+            if !plain(b) {
+                return i;
+            }
+            i = past_plain(s, i);
+        } else {
+            let n = wide(s, i);
+            if n == 0 {
+                return i;
+            }
+            i += n;
+        }
+    }
+    i
 }
 
 // The characters at a position, to the closing quote.

@@ -11,14 +11,16 @@ use lib.ListN.{length, drop, getD, drop-of-length-le, length-append}
 use lib.Seq.{drop-cons}
 use lib.Dec.{eqb, ltb}
 use borrow.Author.Tests.{eq-eqb, ne-eqb, eqb-true, eqb-false, lt-ltb, le-ltb, ltb-true, ltb-false, le-leb, lt-leb}
-use Rattle.text.specs.Reading.{Text, Out, done, bad, deep, next, pick, peek}
+use Rattle.text.specs.Reading.{Text, Out, done, bad, deep, next, pick, peek, part}
 use Rattle.text.specs.Strings.{character, utf8, before, string}
 use Rattle.json.specs.Tree.{same}
 use Rattle.values.specs.Strings.{lengthIn, lengthAt, isText, sameAs, rest, begins, endsIn, bothText, sameTexts}
 use Rattle.values.specs.laws.Compared.{startsFrom, reach, endsFrom}
 use Rattle.values.specs.laws.Ordinary.{Ordinary, reads-itself, width-one, starts-itself, plain-itself}
 use Rattle.values.specs.laws.Alike.{Twice, Alike, alike-less, alike-last}
-use Rattle.text.specs.laws.Plain.{own, pastOwn, own-step, own-stop, own-past, own-ge}
+use Rattle.values.specs.laws.Raws.{part-length, raw-within, rest-raw, Raws, Passed}
+use Rattle.text.specs.Raw.{pastRaw}
+use Rattle.text.specs.laws.Raw.{prefixed}
 use Rattle.text.specs.laws.Readers.{pick-true, pick-false}
 use Rattle.text.specs.laws.Strings.{string-none}
 use Rattle.values.specs.laws.Outs.{Stops, stops-is, stops-bad, stops-deep}
@@ -40,11 +42,15 @@ length-stops n (done t j) h = absurd (h .never t j refl)
 length-stops n (bad p) h = refl
 length-stops n (deep p) h = refl
 
+length-prefixed : (n : ℕ) (u : Text) (o : Out Text) → lengthFrom n (next o (prefixed u)) ≡ lengthFrom (n + length u) o
+unfolding lengthFrom next prefixed
+length-prefixed n u (done t j) = omega (arith, length-append u t)
+length-prefixed n u (bad p) = refl
+length-prefixed n u (deep p) = refl
+
 length-next : (n v : ℕ) (o : Out Text) → lengthFrom n (next o (before v)) ≡ lengthFrom (n + length (utf8 v)) o
-unfolding lengthFrom next before
-length-next n v (done t j) = omega (arith, length-append (utf8 v) t)
-length-next n v (bad p) = refl
-length-next n v (deep p) = refl
+unfolding prefixed before
+length-next n v o = length-prefixed n (utf8 v) o
 
 length-in : (o : Out Text) → lengthIn o ≡ lengthFrom 0 o
 unfolding lengthFrom lengthIn
@@ -71,32 +77,11 @@ module _ (s : Text) (n i : ℕ) {r : ℕ} (inv : lengthFrom n (rest s i) ≡ r) 
   pub length-more : (peek s i ≡ 34 → ⊥) → {v j w : ℕ} → character s i ≡ done v j → w ≡ length (utf8 v) → lengthFrom (n + w) (rest s j) ≡ r
   length-more h {v} {j} {w} e f = ap (λ (k : ℕ). lengthFrom (n + k) (rest s j)) f ∙ sym (length-next n v (rest s j)) ∙ ap (lengthFrom n) (sym (rest-char s i h e)) ∙ inv
 
-length-stay : (s : Text) (n i : ℕ) {k r : ℕ} → lengthFrom n (rest s i) ≡ r → k ≡ i → lengthFrom (n + (k - i)) (rest s k) ≡ r
-length-stay s n i inv e = let q : n + (i - i) ≡ n = omega arith in rw (e, q) inv
-
--- plain bytes in a row, each of which counts one: m turns are enough
-length-turns : (m : ℕ) (s : Text) (n i : ℕ) {r : ℕ} → length s ≤ m + i → lengthFrom n (rest s i) ≡ r → lengthFrom (n + (pastOwn s i - i)) (rest s (pastOwn s i)) ≡ r
-length-turns zero s n i h inv = length-stay s n i inv (own-past s i (omega arith))
-length-turns (suc m) s n i {r} h inv = go (decLt i (length s)) (λ f. length-turns m s (n + 1) (i + 1) (omega arith) f)
-  where
-    here : (lengthFrom (n + 1) (rest s (i + 1)) ≡ r → lengthFrom (n + 1 + (pastOwn s (i + 1) - (i + 1))) (rest s (pastOwn s (i + 1))) ≡ r) → (l : i < length s) (t : Bool) → t ≡ own (getD s i 0) → lengthFrom (n + (pastOwn s i - i)) (rest s (pastOwn s i)) ≡ r
-    here f l true e =
-        let p = plain-itself s i l (sym e) in
-        let a : i + 1 ≤ pastOwn s (i + 1) = own-ge s (i + 1) in
-        let q : n + 1 + (pastOwn s (i + 1) - (i + 1)) ≡ n + (pastOwn s (i + 1) - i) = omega arith in
-        let b : pastOwn s i ≡ pastOwn s (i + 1) = own-step s i l e refl in
-        rw (b, ← q) (f (length-more s n i inv (p .unquoted) (p .reads) (width-one _ (p .ordinary))))
-    here f l false e = length-stay s n i inv (own-stop s i l e refl)
-
-    go : Dec (i < length s) → (lengthFrom (n + 1) (rest s (i + 1)) ≡ r → lengthFrom (n + 1 + (pastOwn s (i + 1) - (i + 1))) (rest s (pastOwn s (i + 1))) ≡ r) → lengthFrom (n + (pastOwn s i - i)) (rest s (pastOwn s i)) ≡ r
-    go (yes l) f = here f l _ refl
-    go (no l) f = length-stay s n i inv (own-past s i (omega arith))
-
-pub plain-ge : (s : Text) (i : ℕ) {k : ℕ} → k ≡ pastOwn s i → i ≤ k
-plain-ge s i e = omega (arith, own-ge s i)
-
-pub length-plain : (s : Text) (n i : ℕ) {k r : ℕ} → lengthFrom n (rest s i) ≡ r → k ≡ pastOwn s i → lengthFrom (n + (k - i)) (rest s k) ≡ r
-length-plain s n i inv e = rw e (length-turns (length s) s n i (omega arith) inv)
+-- characters that stand for their own bytes, in a row: each byte counts one
+pub length-raw : (s : Text) (n i : ℕ) {k r : ℕ} → lengthFrom n (rest s i) ≡ r → k ≡ pastRaw s i → lengthFrom (n + (k - i)) (rest s k) ≡ r
+length-raw s n i {k} inv e =
+    ap (λ (m : ℕ). lengthFrom (n + m) (rest s k)) (sym (part-length s i k (raw-within s i e)))
+    ∙ sym (length-prefixed n (part s i k) (rest s k)) ∙ ap (lengthFrom n) (sym (rest-raw s i e)) ∙ inv
 
 -- ---- the comparison with bytes: where they end in a text t
 
@@ -147,11 +132,15 @@ ends-past (done u j) t k h = past u t k h
 ends-past (bad p) t k h = refl
 ends-past (deep p) t k h = refl
 
+ends-prefixed : (o : Out Text) (t : Text) (k : ℕ) (u : Text) → endsFrom (next o (prefixed u)) t k ≡ pick (startsFrom true u t k) (endsFrom o t (k + length u)) (length t + 1)
+unfolding endsFrom next prefixed pick
+ends-prefixed (done x j) t k u = joined true u x t k
+ends-prefixed (bad p) t k u = sym (pick-same (startsFrom true u t k) _)
+ends-prefixed (deep p) t k u = sym (pick-same (startsFrom true u t k) _)
+
 ends-next : (o : Out Text) (t : Text) (k v : ℕ) → endsFrom (next o (before v)) t k ≡ pick (startsFrom true (utf8 v) t k) (endsFrom o t (k + length (utf8 v))) (length t + 1)
-unfolding endsFrom next before pick
-ends-next (done u j) t k v = joined true (utf8 v) u t k
-ends-next (bad p) t k v = sym (pick-same (startsFrom true (utf8 v) t k) _)
-ends-next (deep p) t k v = sym (pick-same (startsFrom true (utf8 v) t k) _)
+unfolding prefixed before
+ends-next o t k v = ends-prefixed o t k (utf8 v)
 
 pub ends-start : (o : Out Text) (t : Text) → endsFrom o t 0 ≡ endsIn o t
 unfolding endsFrom endsIn
@@ -187,6 +176,13 @@ module _ (s t : Text) (k i : ℕ) {r : ℕ} (inv : endsFrom (rest s i) t k ≡ r
 
     pub ends-byte-more : x ≡ b → endsFrom (rest s (i + 1)) t (k + 1) ≡ r
     ends-byte-more h = ends-more (λ q. n (e ∙ q)) (reads-itself s i e o n) (starts-itself t k b o) (eq-eqb b (peek t k) (sym h ∙ f)) (width-one b o)
+
+-- characters that stand for their own bytes, which are those of t
+pub ends-raws : (s t : Text) (k i : ℕ) {r x : ℕ} → endsFrom (rest s i) t k ≡ x → Raws s i t k r → endsFrom (rest s (i + r)) t (k + r) ≡ x
+ends-raws s t k i {r} inv a =
+    let q : length (part s i (i + r)) ≡ r = part-length s i (i + r) (omega (arith, a .left)) ∙ omega arith in
+    ap (λ (n : ℕ). endsFrom (rest s (i + r)) t (k + n)) (sym q) ∙ sym (pick-true _ _ (a .stands)) ∙ sym (ends-prefixed (rest s (i + r)) t k (part s i (i + r)))
+    ∙ ap (λ (o : Out Text). endsFrom o t k) (sym (a .reads)) ∙ inv
 
 -- plain bytes that are the same in a row are some such steps
 ends-turns : (s t : Text) (i r : ℕ) → Alike s i t 0 r → endsFrom (rest s (i + r)) t r ≡ endsFrom (rest s i) t 0
@@ -386,8 +382,47 @@ both-turns s i k (suc r) {x} inv a = go (both-turns s i k r inv (alike-less a)) 
         let g : k + r + 1 ≡ k + suc r = omega arith in
         rw (← e, ← g) (both-more s (i + r) (k + r) f (p .unquoted) (q .unquoted) (p .reads) (q .reads) (t .same))
 
-pub both-alike : (s : Text) (i k : ℕ) {r : ℕ} {x : Bool} → bothText (rest s (i + 1)) (rest s (k + 1)) ≡ x → Alike s (i + 1) s (k + 1) r → bothText (rest s (i + (r + 1))) (rest s (k + (r + 1))) ≡ x
+both-alike : (s : Text) (i k : ℕ) {r : ℕ} {x : Bool} → bothText (rest s (i + 1)) (rest s (k + 1)) ≡ x → Alike s (i + 1) s (k + 1) r → bothText (rest s (i + (r + 1))) (rest s (k + (r + 1))) ≡ x
 both-alike s i k {r} inv a =
     let e : i + 1 + r ≡ i + (r + 1) = omega arith in
     let g : k + 1 + r ≡ k + (r + 1) = omega arith in
     rw (← e, ← g) (both-turns s (i + 1) (k + 1) r inv a)
+
+-- the same bytes before two texts do not matter
+both-prefixed : (u : Text) (o q : Out Text) → bothText (next o (prefixed u)) (next q (prefixed u)) ≡ bothText o q
+unfolding bothText isText next prefixed
+both-prefixed u (done x j) (done y k) = same-front u y x
+both-prefixed u (done x j) (bad p) = refl
+both-prefixed u (done x j) (deep p) = refl
+both-prefixed u (bad p) q = refl
+both-prefixed u (deep p) q = refl
+
+-- characters that stand for their own bytes, which are the same
+both-raws : (s : Text) (i k : ℕ) {r : ℕ} → Raws s i s k r → bothText (rest s (i + r)) (rest s (k + r)) ≡ bothText (rest s i) (rest s k)
+both-raws s i k {r} a =
+    sym (both-prefixed (part s i (i + r)) (rest s (i + r)) (rest s (k + r)))
+    ∙ ap (λ (o : Out Text). bothText o (next (rest s (k + r)) (prefixed (part s i (i + r))))) (sym (a .reads)) ∙ ap (bothText (rest s i)) (sym (a .reads-too))
+
+-- ---- what can be passed at two positions
+
+pub passed-none : (s : Text) (i k : ℕ) → Passed s i k 0
+passed-none s i k =
+    record {
+      left = omega arith;
+      right = omega arith;
+      on = ap (λ (n : ℕ). bothText (rest s n) (rest s (k + 0))) (add-zero i) ∙ ap (λ (n : ℕ). bothText (rest s i) (rest s n)) (add-zero k);
+    }
+
+-- a byte that is a character by itself, and plain bytes after it
+pub passed-plain : (s : Text) (i k : ℕ) {b r : ℕ} → b ≡ peek s i → b ≡ peek s k → (b ≡ 34 → ⊥) → Ordinary b → Alike s (i + 1) s (k + 1) r → Passed s i k (r + 1)
+passed-plain s i k {b} {r} e f n o a =
+    let g : i + 1 + r ≤ length s = a .left in
+    let h : k + 1 + r ≤ length s = a .right in
+    record {
+      left = omega arith;
+      right = omega arith;
+      on = both-alike s i k (both-more s i k refl (λ q. n (e ∙ q)) (λ q. n (f ∙ q)) (reads-itself s i e o n) (reads-itself s k f o n) refl) a;
+    }
+
+pub passed-raws : (s : Text) (i k : ℕ) {r : ℕ} → Raws s i s k r → Passed s i k r
+passed-raws s i k a = record { left = a .left; right = a .right; on = both-raws s i k a }

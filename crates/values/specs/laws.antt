@@ -5,5 +5,6 @@ pub mod Ordinary
 pub mod Rest
 pub mod Ends
 pub mod Alike
+pub mod Raws
 pub mod Shapes
 pub mod Standing

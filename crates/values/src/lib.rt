@@ -15,6 +15,7 @@ ghost use Rattle.text.specs.laws.Marks.{marks as marksOf};
 ghost use Rattle.values.specs.laws.Compared.{startsFrom, endsFrom};
 ghost use Rattle.values.specs.laws.Ordinary.{Ordinary};
 ghost use Rattle.values.specs.laws.Alike.{twice, twiceAt, Alike};
+ghost use Rattle.values.specs.laws.Raws.{Equal, Raws, Passed};
 
 // What kind of value begins at a position.
 pub enum Kind {
@@ -101,7 +102,7 @@ fn width(v: u32) -> usize
     if v < 65536 { 3 } else { 4 }
 }
 
-// The length of the string at a position, unescaped; 0 where no string stands. Plain bytes are counted in a row.
+// The length of the string at a position, unescaped; 0 where no string stands. Characters that stand for their own bytes are counted in a row.
 pub fn length_at(s: &[u8], at: usize) -> usize
     ensures { λ r. ⌜ r ≡ lengthAt (now (s .entry)) at ⌝ }
 {
@@ -111,7 +112,7 @@ pub fn length_at(s: &[u8], at: usize) -> usize
     let mut i = at + 1;
     let mut n: usize = 0;
     loop {
-        let k = text::past_plain(s, i);
+        let k = text::past_raw(s, i);
         n += k - i;
         if text::byte(s, k) == 34 {
             return n;
@@ -185,6 +186,46 @@ pub fn same_as(s: &[u8], at: usize, t: &[u8]) -> bool
     begun_rest(s, at + 1 + n, t, n) == t.len()
 }
 
+// How many bytes at two positions are the same, up to the first that is no part of a character that stands for its own bytes: a control byte, a quote, a backslash.
+fn same_bytes(s: &[u8], i: usize, t: &[u8], k: usize) -> usize
+    requires { ⌜ (i ≤ length (now s)) × (k ≤ length (now t)) ⌝ }
+    ensures { λ r. ⌜ Equal (now (s .entry)) i (now (t .entry)) k r ⌝ }
+{
+    let last = room(s, i, t, k);
+    let mut n: usize = 0;
+    while n < last {
+        let b = s[i + n];
+        if b != t[k + n] {
+            return n;
+        }
+        if b < 128 {
+            if !text::plain(b) {
+                return n;
+            }
+        }
+        n += 1;
+    }
+    n
+}
+
+// How many bytes at two positions are the same and are whole characters that stand for them; 0 where b, the first, is below 128. The characters are looked for among the
+// bytes that are the same alone, so that each byte is passed over a few times at most, however the two go on.
+fn raw_alike(s: &[u8], i: usize, t: &[u8], k: usize, b: u32) -> usize
+    ensures { λ r. ⌜ Raws (now (s .entry)) i (now (t .entry)) k r ⌝ }
+{
+    if b < 128 {
+        return 0;
+    }
+    if s.len() <= i {
+        return 0;
+    }
+    if t.len() <= k {
+        return 0;
+    }
+    let n = same_bytes(s, i, t, k);
+    text::past_raw(&s[..i + n], i) - i
+}
+
 // Where what is left of a string ends in a text, with which it agreed up to `start`; past the end of the text if it goes on otherwise. For `begun`, with any characters.
 fn begun_rest(s: &[u8], from: usize, t: &[u8], start: usize) -> usize
     requires { ⌜ start ≤ length (now t) ⌝ }
@@ -204,6 +245,12 @@ fn begun_rest(s: &[u8], from: usize, t: &[u8], start: usize) -> usize
             }
             i += 1;
             end += 1;
+            continue;
+        }
+        let n = raw_alike(s, i, t, end, b);
+        if 0 < n {
+            i += n;
+            end += n;
             continue;
         }
         match text::character(s, i) {
@@ -243,13 +290,6 @@ pub fn begun(s: &[u8], from: usize, t: &[u8]) -> usize
         i += 1;
         n += 1;
     }
-}
-
-// Two bytes that are characters by themselves, if they are no quotes.
-fn both_ordinary(b: u32, d: u32) -> bool
-    ensures { λ r. ⌜ (r ≡ true → Ordinary b × Ordinary d) ⌝ }
-{
-    if ordinary(b) { ordinary(d) } else { false }
 }
 
 // A weight for two bytes that differ or are not plain, and nothing for a plain byte twice.
@@ -339,7 +379,21 @@ fn alike_blocks(s: &[u8], i: usize, t: &[u8], k: usize) -> usize
     n
 }
 
-// What is left of two strings from two positions on is one text; false where either goes wrong. Equal texts have equal characters; plain ones are compared in a row.
+// How many bytes can be passed at two positions, where b and d stand, since they are the same and are whole characters that stand for them; 0 where the characters are to be read.
+fn row(s: &[u8], i: usize, k: usize, b: u32, d: u32) -> usize
+    requires { ⌜ (b ≡ peek (now s) i) × (d ≡ peek (now s) k) × (b ≡ 34 → ⊥) ⌝ }
+    ensures { λ r. ⌜ Passed (now (s .entry)) i k r ⌝ }
+{
+    if b != d {
+        return 0;
+    }
+    if ordinary(b) {
+        return alike(s, i + 1, k + 1) + 1;
+    }
+    raw_alike(s, i, s, k, b)
+}
+
+// What is left of two strings from two positions on is one text; false where either goes wrong. Equal texts have equal characters; those that stand for their own bytes are compared in a row.
 fn same_rest(s: &[u8], p: usize, q: usize) -> bool
     ensures { λ r. ⌜ r ≡ bothText (rest (now (s .entry)) p) (rest (now (s .entry)) q) ⌝ }
 {
@@ -354,11 +408,8 @@ fn same_rest(s: &[u8], p: usize, q: usize) -> bool
         if d == 34 {
             return false;
         }
-        if both_ordinary(b, d) {
-            if b != d {
-                return false;
-            }
-            let n = alike(s, i + 1, k + 1) + 1;
+        let n = row(s, i, k, b, d);
+        if 0 < n {
             i += n;
             k += n;
             continue;

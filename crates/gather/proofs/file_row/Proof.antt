@@ -1,5 +1,6 @@
 -- `file_row`: zeros past the last file; else each number is the definition's. Assumes nothing.
 use Rattle.gather.proofs.Steps.{row-none, file-made}
+use Rattle.gather.proofs.Recorded.{flag-at}
 use mathlib.Core.Path.{sym}
 use native.Mathlib.Omega.{arith}
 use borrow.Author.Needs.{needs}
@@ -10,13 +11,10 @@ returns : tie.Need-returns
 returns c = sym (row-none _ 6 _ _ (c .if1 .taken))
 
 path-entry-requires : tie.Need-path-entry-requires
-path-entry-requires c κs = c .before .before .before .before .pre .1
+path-entry-requires c κs = (c .before .before .before .before .pre .1, c .before .before .before .before .pre .4)
 
-link-requires : tie.Need-link-requires
-link-requires c κs = search needs
-
-tie-code-requires : tie.Need-tie-code-requires
-tie-code-requires c κs = search needs
+tie-requires : tie.Need-tie-requires
+tie-requires c κs = search needs
 
 base-requires : tie.Need-base-requires
 base-requires c κs = search needs
@@ -33,17 +31,17 @@ flag-requires c κs = search needs
 small-requires-2 : tie.Need-small-requires-2
 small-requires-2 c κs = search needs
 
-recorded-requires : tie.Need-recorded-requires
-recorded-requires c κs = c .before .before .before .before .before .before .before .before .before .before .before .before .pre .0
+element-copy-out-small : tie.Need-element-copy-out-small
+element-copy-out-small c = omega (arith, c .before .before .before .before .before .before .before .before .before .before .before .pre .0 .few-files)
 
-flag-requires-2 : tie.Need-flag-requires-2
-flag-requires-2 c κs = search needs
+small-requires-3 : tie.Need-small-requires-3
+small-requires-3 c κs = search needs
 
-cast-t18 : tie.Need-cast-t18
-cast-t18 c = omega (arith, c .before .before .before .before .before .before .before .before .before .path-entry .ensures .1)
+cast-t22 : tie.Need-cast-t22
+cast-t22 c = omega (arith, c .before .before .before .before .before .before .before .before .path-entry .ensures .1)
 
 returns-2 : tie.Need-returns-2
-returns-2 c = file-made (c .before .before .before .before .before .before .before .before .before .before .before .before .before .before .args .s .now) (c .before .before .before .before .before .before .before .before .before .before .before .before .before .before .args .ix .now) (c .before .before .before .before .before .before .before .before .before .before .before .before .before .before .args .names .now) (c .before .before .before .before .before .before .before .before .before .before .before .before .before .before .args .b .now) (c .before .before .before .before .before .before .before .before .before .before .before .before .before .before .args .t) (c .before .before .before .before .before .before .before .before .before .before .before .before .before .before .args .f) (c .before .before .before .before .before .before .before .before .before .before .before .before .before .before .args .at) (c .before .before .before .before .before .before .before .before .before .before .if1 .left) (c .before .before .before .before .before .before .before .before .before .before .before .before .before .before .pre .2 (c .before .before .before .before .before .before .before .before .before .before .if1 .left)) (c .before .before .before .before .before .before .before .before .before .path-entry .ensures .0) (c .before .before .before .before .before .before .before .before .link .ensures) (c .before .before .before .before .before .before .before .tie-code .ensures) (c .before .before .before .before .before .before .base .ensures) (c .before .before .before .before .before .small .ensures) (c .before .before .before .before .head-at .ensures) (c .before .before .before .flag .ensures) (c .before .before .small2 .ensures) (c .before .recorded .ensures (c .before .before .before .before .before .before .before .before .before .before .before .before .before .before .args .s .now) (c .before .before .before .before .before .before .before .before .before .before .before .before .before .before .args .ix .now) (c .before .before .before .before .before .before .before .before .before .before .before .before .before .before .args .names .now)) (c .flag2 .ensures)
+returns-2 c = file-made (c .before .before .before .before .before .before .before .before .before .before .before .before .before .args .s .now) (c .before .before .before .before .before .before .before .before .before .before .before .before .before .args .ix .now) (c .before .before .before .before .before .before .before .before .before .before .before .before .before .args .lookups .now) (c .before .before .before .before .before .before .before .before .before .before .before .before .before .args .b .now) (c .before .before .before .before .before .before .before .before .before .before .before .before .before .args .t) (c .before .before .before .before .before .before .before .before .before .before .before .before .before .args .f) (c .before .before .before .before .before .before .before .before .before .before .before .before .before .args .at) (c .before .before .before .before .before .before .before .before .before .if1 .left) (c .before .before .before .before .before .before .before .before .before .before .before .before .before .pre .2 (c .before .before .before .before .before .before .before .before .before .if1 .left)) (c .before .before .before .before .before .before .before .before .path-entry .ensures .0) (c .before .before .before .before .before .before .before .tie .ensures) (c .before .before .before .before .before .before .base .ensures) (c .before .before .before .before .before .small .ensures) (c .before .before .before .before .head-at .ensures) (c .before .before .before .flag .ensures) (c .before .before .small2 .ensures) (flag-at (c .before .before .before .before .before .before .before .before .before .before .before .before .before .pre .3) (c .before .before .before .before .before .before .before .before .before .before .before .before .before .args .s .now) (c .before .before .before .before .before .before .before .before .before .before .before .before .before .args .ix .now) (c .before .before .before .before .before .before .before .before .before .before .before .before .before .args .lookups .now) (c .before .before .before .before .before .before .before .before .before .before .before .before .before .args .f) (omega (arith, c .before .before .before .before .before .before .before .before .before .before .before .before .before .pre .0 .few-files)) (c .small3 .ensures))
 
 pub file-row-spec : {M : Type 1} → statement M
 file-row-spec =
@@ -51,14 +49,13 @@ file-row-spec =
     (tie.spec
     returns
     path-entry-requires
-    link-requires
-    tie-code-requires
+    tie-requires
     base-requires
     small-requires
     head-at-requires
     flag-requires
     small-requires-2
-    recorded-requires
-    flag-requires-2
-    cast-t18
+    element-copy-out-small
+    small-requires-3
+    cast-t22
     returns-2)

@@ -20,10 +20,10 @@ put-files-requires : tie.Need-put-files-requires
 put-files-requires c κs = (c .before .before .before .before .before .before .before .pre .0, put-length (c .before .store .ensures) ∙ c .before .before .before .before .before .before .before .pre .1)
 
 put-sources-requires : tie.Need-put-sources-requires
-put-sources-requires c κs = (c .before .before .before .before .before .before .before .before .before .pre .0, put-length (c .before .put-files .ensures) ∙ (put-length (c .before .before .before .store .ensures) ∙ c .before .before .before .before .before .before .before .before .before .pre .1), c .before .before .before .before .before .before .before .before .before .pre .2, known-put (c .before .before .before .before .before .before .before .before .before .args .s .now) (c .before .before .before .before .before .before .before .before .before .args .ix .now) (c .before .before .before .before .before .before .before .before .before .args .names .now) (c .before .before .before .before .before .before .before .before .before .args .b .now) (c .before .before .before .before .before .before .before .before .before .args .t) (c .before .before .before .before .before .before .before .before .before .pre .0) (c .before .put-files .ensures))
+put-sources-requires c κs = (c .before .before .before .before .before .before .before .before .before .pre .0, put-length (c .before .put-files .ensures) ∙ (put-length (c .before .before .before .store .ensures) ∙ c .before .before .before .before .before .before .before .before .before .pre .1), c .before .before .before .before .before .before .before .before .before .pre .2, known-put (c .before .before .before .before .before .before .before .before .before .args .s .now) (c .before .before .before .before .before .before .before .before .before .args .ix .now) (c .before .before .before .before .before .before .before .before .before .args .lookups .now) (c .before .before .before .before .before .before .before .before .before .args .b .now) (c .before .before .before .before .before .before .before .before .before .args .t) (c .before .before .before .before .before .before .before .before .before .pre .0) (c .before .put-files .ensures))
 
 returns : tie.Need-returns
-returns c = table-made (c .before .before .before .before .before .before .before .before .before .before .args .s .now) (c .before .before .before .before .before .before .before .before .before .before .args .ix .now) (c .before .before .before .before .before .before .before .before .before .before .args .names .now) (c .before .before .before .before .before .before .before .before .before .before .args .b .now) (c .before .before .before .before .before .before .before .before .before .before .args .t) (c .before .before .before .before .before .before .before .before .before .before .pre .1) (c .before .before .before .before .before .before .before .head-row .ensures) (c .before .before .before .before .store .ensures) (c .before .before .put-files .ensures) (c .put-sources .ensures)
+returns c = table-made (c .before .before .before .before .before .before .before .before .before .before .args .s .now) (c .before .before .before .before .before .before .before .before .before .before .args .ix .now) (c .before .before .before .before .before .before .before .before .before .before .args .lookups .now) (c .before .before .before .before .before .before .before .before .before .before .args .b .now) (c .before .before .before .before .before .before .before .before .before .before .args .t) (c .before .before .before .before .before .before .before .before .before .before .pre .1) (c .before .before .before .before .before .before .before .head-row .ensures) (c .before .before .before .before .store .ensures) (c .before .before .put-files .ensures) (c .put-sources .ensures)
 
 pub fill-spec : {M : Type 1} → statement M
 fill-spec =

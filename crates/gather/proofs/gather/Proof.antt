@@ -22,10 +22,10 @@ fill-requires : tie.Need-fill-requires
 fill-requires c κs = let a = accepted _ _ (sym (c .before .before .before .before .read .ensures) ∙ c .before .before .table .given .1) in (near a, length-replicate {A = ℕ} 324 0, cites a)
 
 returns : tie.Need-returns
-returns c = (sym (c .before .k .given .1) ∙ c .before .before .before .read .ensures, refused-made (c .before .before .before .before .before .before .args .s .now) (c .before .before .before .before .before .before .args .ix .now) (c .before .before .before .before .before .before .args .names .now) (c .before .before .before .before .before .before .args .b .now) (sym (c .before .before .before .read .ensures) ∙ c .before .k .given .1))
+returns c = (sym (c .before .k .given .1) ∙ c .before .before .before .read .ensures, refused-made (c .before .before .before .before .before .before .args .s .now) (c .before .before .before .before .before .before .args .ix .now) (c .before .before .before .before .before .before .args .lookups .now) (c .before .before .before .before .before .before .args .b .now) (sym (c .before .before .before .read .ensures) ∙ c .before .k .given .1))
 
 returns-2 : tie.Need-returns-2
-returns-2 c = (sym (c .before .before .before .table .given .1) ∙ c .before .before .before .before .before .read .ensures, listed-made (c .before .before .before .before .before .before .before .before .args .s .now) (c .before .before .before .before .before .before .before .before .args .ix .now) (c .before .before .before .before .before .before .before .before .args .names .now) (c .before .before .before .before .before .before .before .before .args .b .now) (sym (c .before .before .before .before .before .read .ensures) ∙ c .before .before .before .table .given .1) (c .fill .ensures))
+returns-2 c = (sym (c .before .before .before .table .given .1) ∙ c .before .before .before .before .before .read .ensures, listed-made (c .before .before .before .before .before .before .before .before .args .s .now) (c .before .before .before .before .before .before .before .before .args .ix .now) (c .before .before .before .before .before .before .before .before .args .lookups .now) (c .before .before .before .before .before .before .before .before .args .b .now) (sym (c .before .before .before .before .before .read .ensures) ∙ c .before .before .before .table .given .1) (c .fill .ensures))
 
 pub gather-spec : {M : Type 1} → statement M
 gather-spec =

@@ -1,4 +1,4 @@
--- `head_row`: each count is at most 32. The slice of the names tells that they are 32. Assumes nothing.
+-- `head_row`: each count is at most 32. The slice of the table tells that it has 96 numbers. Assumes nothing.
 use Rattle.gather.proofs.Steps.{few-names, head-made}
 use Rattle.finds.specs.laws.Paths.{few-entries}
 use native.Mathlib.Omega.{arith}
@@ -22,7 +22,7 @@ cast-t10 : tie.Need-cast-t10
 cast-t10 c = omega (arith, few-entries (c .before .before .before .before .before .args .ix .now), c .before .before .before .count .ensures)
 
 cast-t11 : tie.Need-cast-t11
-cast-t11 c = omega (arith, few-names (c .before .before .before .before .before .args .names .now) (c .before .before .before .before .table .given .0), c .before .before .named .ensures)
+cast-t11 c = omega (arith, few-names (c .before .before .before .before .before .args .lookups .now) (c .before .before .before .before .table .given .0), c .before .before .named .ensures)
 
 returns : tie.Need-returns
 returns c = head-made (c .before .before .before .before .before .args .t) (c .before .before .before .count .ensures) (c .before .before .named .ensures)

@@ -27,13 +27,13 @@ part-code-requires : tie.Need-part-code-requires
 part-code-requires c κs = search needs
 
 returns : tie.Need-returns
-returns c = owned-nobody (c .before .before .owned-of .ensures) (partOf (c .before .before .before .before .args .s .now) (c .before .before .before .before .args .ix .now) (c .before .before .before .before .args .names .now) (c .before .before .before .before .args .e) (c .before .before .before .before .args .id)) (c .enum-told .given .1)
+returns c = owned-nobody (c .before .before .owned-of .ensures) (partOf (c .before .before .before .before .args .s .now) (c .before .before .before .before .args .ix .now) (c .before .before .before .before .args .lookups .now) (c .before .before .before .before .args .e) (c .before .before .before .before .args .id)) (c .enum-told .given .1)
 
 returns-2 : tie.Need-returns-2
-returns-2 c = owned-whole (c .before .before .before .before .owned-of .ensures) (partOf (c .before .before .before .before .before .before .args .s .now) (c .before .before .before .before .before .before .args .ix .now) (c .before .before .before .before .before .before .args .names .now) (c .before .before .before .before .before .before .args .e) (c .before .before .before .before .before .before .args .id)) (c .before .before .m .given .1) (c .small .ensures)
+returns-2 c = owned-whole (c .before .before .before .before .owned-of .ensures) (partOf (c .before .before .before .before .before .before .args .s .now) (c .before .before .before .before .before .before .args .ix .now) (c .before .before .before .before .before .before .args .lookups .now) (c .before .before .before .before .before .before .args .e) (c .before .before .before .before .before .before .args .id)) (c .before .before .m .given .1) (c .small .ensures)
 
 returns-3 : tie.Need-returns-3
-returns-3 c = owned-split (c .before .before .before .before .owned-of .ensures) (partOf (c .before .before .before .before .before .before .args .s .now) (c .before .before .before .before .before .before .args .ix .now) (c .before .before .before .before .before .before .args .names .now) (c .before .before .before .before .before .before .args .e) (c .before .before .before .before .before .before .args .id)) (c .before .before .enum-told2 .given .1) (c .before .part-of .ensures) (c .part-code .ensures)
+returns-3 c = owned-split (c .before .before .before .before .owned-of .ensures) (partOf (c .before .before .before .before .before .before .args .s .now) (c .before .before .before .before .before .before .args .ix .now) (c .before .before .before .before .before .before .args .lookups .now) (c .before .before .before .before .before .before .args .e) (c .before .before .before .before .before .before .args .id)) (c .before .before .enum-told2 .given .1) (c .before .part-of .ensures) (c .part-code .ensures)
 
 pub owned-code-spec : {M : Type 1} → statement M
 owned-code-spec =

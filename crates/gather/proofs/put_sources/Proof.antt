@@ -18,10 +18,10 @@ abbrev μ-loop : tie.MeasureT-loop
 μ-loop s ix names b t out₀ j₀ out j = 32 - j
 
 loop-holds : tie.Need-loop-holds Inv-loop μ-loop
-loop-holds c = (omega arith, rows-start 4 _ (source-length (c .before .before .args .s .now) (c .before .before .args .ix .now) (c .before .before .args .names .now) (c .before .before .args .b .now) (c .before .before .args .t)) 196 (omega (arith, c .before .before .pre .1)))
+loop-holds c = (omega arith, rows-start 4 _ (source-length (c .before .before .args .s .now) (c .before .before .args .ix .now) (c .before .before .args .lookups .now) (c .before .before .args .b .now) (c .before .before .args .t)) 196 (omega (arith, c .before .before .pre .1)))
 
 source-row-requires : tie.Need-source-row-requires Inv-loop μ-loop
-source-row-requires c κs = (c .before .before .before .before .before .pre .0, c .before .before .before .before .before .pre .2, known-kept (c .before .before .before .before .before .args .s .now) (c .before .before .before .before .before .args .ix .now) (c .before .before .before .before .before .args .names .now) (c .before .before .before .before .before .args .b .now) (c .before .before .before .before .before .args .t) (c .before .before .before .before .before .pre .0) (c .before .before .before .before .before .pre .3) (c .before .before .loop .inv .1))
+source-row-requires c κs = (c .before .before .before .before .before .pre .0, c .before .before .before .before .before .pre .2, known-kept (c .before .before .before .before .before .args .s .now) (c .before .before .before .before .before .args .ix .now) (c .before .before .before .before .before .args .lookups .now) (c .before .before .before .before .before .args .b .now) (c .before .before .before .before .before .args .t) (c .before .before .before .before .before .pre .0) (c .before .before .before .before .before .pre .3) (c .before .before .loop .inv .1))
 
 mul-store : tie.Need-mul-store Inv-loop μ-loop
 mul-store c = omega arith
@@ -42,10 +42,10 @@ loop-less : tie.Need-loop-less Inv-loop μ-loop
 loop-less c = search needs
 
 loop-again : tie.Need-loop-again Inv-loop μ-loop
-loop-again c = (omega arith, rows-more 4 _ (source-length (c .before .before .before .before .before .before .before .before .before .args .s .now) (c .before .before .before .before .before .before .before .before .before .args .ix .now) (c .before .before .before .before .before .before .before .before .before .args .names .now) (c .before .before .before .before .before .before .before .before .before .args .b .now) (c .before .before .before .before .before .before .before .before .before .args .t)) 196 _ (c .before .before .before .before .before .before .loop .inv .1) (c .before .before .before .source-row .ensures) (c .store .ensures))
+loop-again c = (omega arith, rows-more 4 _ (source-length (c .before .before .before .before .before .before .before .before .before .args .s .now) (c .before .before .before .before .before .before .before .before .before .args .ix .now) (c .before .before .before .before .before .before .before .before .before .args .lookups .now) (c .before .before .before .before .before .before .before .before .before .args .b .now) (c .before .before .before .before .before .before .before .before .before .args .t)) 196 _ (c .before .before .before .before .before .before .loop .inv .1) (c .before .before .before .source-row .ensures) (c .store .ensures))
 
 returns : tie.Need-returns Inv-loop μ-loop
-returns c = rows-end 4 _ (source-length (c .before .before .before .before .args .s .now) (c .before .before .before .before .args .ix .now) (c .before .before .before .before .args .names .now) (c .before .before .before .before .args .b .now) (c .before .before .before .before .args .t)) 196 _ (c .before .loop .inv .0) (c .loop-test .left) (c .before .loop .inv .1)
+returns c = rows-end 4 _ (source-length (c .before .before .before .before .args .s .now) (c .before .before .before .before .args .ix .now) (c .before .before .before .before .args .lookups .now) (c .before .before .before .before .args .b .now) (c .before .before .before .before .args .t)) 196 _ (c .before .loop .inv .0) (c .loop-test .left) (c .before .loop .inv .1)
 
 pub put-sources-spec : {M : Type 1} → statement M
 put-sources-spec =

@@ -31,7 +31,7 @@ mul-wide-2 : tie.Need-mul-wide-2
 mul-wide-2 c = search needs
 
 element-copy-out-wide : tie.Need-element-copy-out-wide
-element-copy-out-wide c = omega (arith, source-low (c .before .before .before .before .before .before .before .args .s .now) (c .before .before .before .before .before .before .before .args .ix .now) (c .before .before .before .before .before .before .before .args .names .now) (c .before .before .before .before .before .before .before .args .b .now) (c .before .before .before .before .before .before .before .args .t) (c .before .before .before .before .before .before .before .pre .0) (c .before .before .before .before .before .before .before .pre .1) (c .before .before .before .before .before .before .before .pre .2) _ (c .before .before .before .if1 .left) (c .before .source-at .ensures), c .long .ensures .0)
+element-copy-out-wide c = omega (arith, source-low (c .before .before .before .before .before .before .before .args .s .now) (c .before .before .before .before .before .before .before .args .ix .now) (c .before .before .before .before .before .before .before .args .lookups .now) (c .before .before .before .before .before .before .before .args .b .now) (c .before .before .before .before .before .before .before .args .t) (c .before .before .before .before .before .before .before .pre .0) (c .before .before .before .before .before .before .before .pre .1) (c .before .before .before .before .before .before .before .pre .2) _ (c .before .before .before .if1 .left) (c .before .source-at .ensures), c .long .ensures .0)
 
 wide-requires : tie.Need-wide-requires
 wide-requires c κs = search needs
@@ -49,7 +49,7 @@ array-read-t27 : tie.Need-array-read-t27
 array-read-t27 c = search needs
 
 returns-2 : tie.Need-returns-2
-returns-2 c = source-made (c .before .before .before .before .before .before .before .before .before .before .before .args .s .now) (c .before .before .before .before .before .before .before .before .before .before .before .args .ix .now) (c .before .before .before .before .before .before .before .before .before .before .before .args .names .now) (c .before .before .before .before .before .before .before .before .before .before .before .args .b .now) (c .before .before .before .before .before .before .before .before .before .before .before .args .t) (c .before .before .before .before .before .before .before .before .before .before .before .pre .0) (c .before .before .before .before .before .before .before .before .before .before .before .pre .1) (c .before .before .before .before .before .before .before .before .before .before .before .pre .2) _ (c .before .before .before .before .before .before .before .if1 .left) (c .before .before .before .before .before .source-at .ensures) (c .before .before .before .before .long .ensures .0) (c .before .before .wide .ensures .0) (c .before .owned-code .ensures) (c .small .ensures)
+returns-2 c = source-made (c .before .before .before .before .before .before .before .before .before .before .before .args .s .now) (c .before .before .before .before .before .before .before .before .before .before .before .args .ix .now) (c .before .before .before .before .before .before .before .before .before .before .before .args .lookups .now) (c .before .before .before .before .before .before .before .before .before .before .before .args .b .now) (c .before .before .before .before .before .before .before .before .before .before .before .args .t) (c .before .before .before .before .before .before .before .before .before .before .before .pre .0) (c .before .before .before .before .before .before .before .before .before .before .before .pre .1) (c .before .before .before .before .before .before .before .before .before .before .before .pre .2) _ (c .before .before .before .before .before .before .before .if1 .left) (c .before .before .before .before .before .source-at .ensures) (c .before .before .before .before .long .ensures .0) (c .before .before .wide .ensures .0) (c .before .owned-code .ensures) (c .small .ensures)
 
 pub source-row-spec : {M : Type 1} → statement M
 source-row-spec =

@@ -11,7 +11,7 @@ use Rattle.sheet.specs.Lists.{sourcesOf}
 use Rattle.sheet.specs.Accepted.{Accepted, source-of, source-good}
 use Rattle.sheet.specs.declared.Table.{Table}
 use Rattle.merged.specs.Facts.{noSource}
-use Rattle.gather.specs.Gathered.{entryFor}
+use Rattle.gather.specs.Gathered.{flag, entryFor, recordedIn}
 
 -- few records, at low positions
 pub record Near (t : Table) : Type 0 where
@@ -28,6 +28,10 @@ pub record Cites (b : List ℕ) (t : Table) : Type 0 where
 -- the entry of each file is in the table
 pub record Known (s : Text) (ix names b : List ℕ) (t : Table) (out : List ℕ) : Type 0 where
   pub known : (f : ℕ) → f < t .files → getD out (4 + 6 * f) 0 ≡ entryFor s ix names b t f
+
+-- for each file, whether it has a snapshot
+pub record Recorded (b : List ℕ) (t : Table) (out : List ℕ) : Type 0 where
+  pub recorded : (s : Text) (ix names : List ℕ) (f : ℕ) → f < 32 → getD out f 0 ≡ flag (recordedIn s ix names b t f)
 
 -- the table of a sheet that is listed
 module _ {b : List ℕ} {t : Table} (a : Accepted b t) where

@@ -10,9 +10,9 @@ use Rattle.json.specs.Tree.{same}
 use Rattle.manifest.specs.Meaning.{Meaning, Listed}
 use Rattle.manifest.specs.declared.Link.the-variants.{Unrelated}
 use Rattle.index.specs.Index.{colOf, itemOf}
-use Rattle.finds.specs.Finds.{nameFor, baseAt}
+use Rattle.finds.specs.Finds.{nameFor, baseAt, lookups}
 use Rattle.finds.specs.laws.Paths.{few-entries}
-use Rattle.named.specs.Named.{nameTable, numberAt}
+use Rattle.named.specs.Named.{numberAt}
 use Rattle.meant.specs.declared.Owned.the-variants.{Nobody}
 use Rattle.meant.specs.declared.Part.the-variants.{Undeclared}
 use Rattle.meant.specs.Meant.{baseOf, ownedOf, partOf, linkOf}
@@ -57,20 +57,20 @@ module _ {s : Text} {ix : List ℕ} {w : Meaning} (k : Tells s ix w) where
   past : {i : ℕ} → i ≡ 32 → getD (w .listed) i unlisted ≡ unlisted
   past {i} e = List·getD-eq-default (w .listed) unlisted {n = i} (omega (arith, few))
 
-  pub base-said : (i : ℕ) → Found w i → baseOf s ix (nameTable s ix) i ≡ getD (w .listed) i unlisted .base
+  pub base-said : (i : ℕ) → Found w i → baseOf s ix (lookups s ix) i ≡ getD (w .listed) i unlisted .base
   base-said i (inl h) = k .base-told (omega (arith, k .entries-told)) unlisted
-  base-said i (inr e) = ap (baseOf s ix (nameTable s ix)) e ∙ base-none s ix (nameTable s ix) ∙ sym (ap (λ (l : Listed). l .base) (past e))
+  base-said i (inr e) = ap (baseOf s ix (lookups s ix)) e ∙ base-none s ix (lookups s ix) ∙ sym (ap (λ (l : Listed). l .base) (past e))
 
-  pub link-said : (i : ℕ) → Found w i → linkOf s ix (nameTable s ix) i ≡ getD (w .listed) i unlisted .link
+  pub link-said : (i : ℕ) → Found w i → linkOf s ix (lookups s ix) i ≡ getD (w .listed) i unlisted .link
   link-said i (inl h) = k .link-told (omega (arith, k .entries-told)) unlisted
-  link-said i (inr e) = ap (linkOf s ix (nameTable s ix)) e ∙ link-none s ix (nameTable s ix) ∙ sym (ap (λ (l : Listed). l .link) (past e))
+  link-said i (inr e) = ap (linkOf s ix (lookups s ix)) e ∙ link-none s ix (lookups s ix) ∙ sym (ap (λ (l : Listed). l .link) (past e))
 
-  pub owned-said : (i : ℕ) → Found w i → ownedOf s ix (nameTable s ix) i ≡ toldOwned (getD (w .listed) i unlisted .owns)
+  pub owned-said : (i : ℕ) → Found w i → ownedOf s ix (lookups s ix) i ≡ toldOwned (getD (w .listed) i unlisted .owns)
   unfolding toldOwned
   owned-said i (inl h) = k .owned-told (omega (arith, k .entries-told)) unlisted
-  owned-said i (inr e) = ap (ownedOf s ix (nameTable s ix)) e ∙ owned-none s ix (nameTable s ix) ∙ sym (ap (λ (l : Listed). toldOwned (l .owns)) (past e))
+  owned-said i (inr e) = ap (ownedOf s ix (lookups s ix)) e ∙ owned-none s ix (lookups s ix) ∙ sym (ap (λ (l : Listed). toldOwned (l .owns)) (past e))
 
-  pub part-said : (i : ℕ) → Found w i → (z : ℕ) → partOf s ix (nameTable s ix) i z ≡ toldPart z (getD (w .listed) i unlisted .owns)
+  pub part-said : (i : ℕ) → Found w i → (z : ℕ) → partOf s ix (lookups s ix) i z ≡ toldPart z (getD (w .listed) i unlisted .owns)
   unfolding toldPart
   part-said i (inl h) z = k .part-told (omega (arith, k .entries-told)) unlisted z
-  part-said i (inr e) z = ap (λ (n : ℕ). partOf s ix (nameTable s ix) n z) e ∙ part-none s ix (nameTable s ix) z ∙ sym (ap (λ (l : Listed). toldPart z (l .owns)) (past e))
+  part-said i (inr e) z = ap (λ (n : ℕ). partOf s ix (lookups s ix) n z) e ∙ part-none s ix (lookups s ix) z ∙ sym (ap (λ (l : Listed). toldPart z (l .owns)) (past e))

@@ -15,17 +15,11 @@ use Rattle.outline.specs.Outline.{domainAt, textIn as textInOf, textAt as textA
 use Rattle.index.specs.Index.{textIn, textAt, colOf, at, textCell, entryAt, whoseAt}
 use Rattle.finds.specs.Finds.{baseAt}
 use Rattle.finds.specs.laws.Bases.{cited-whose, base-right}
+use Rattle.itself.specs.Itself.{ownClock, otherClock}
 
 -- ---- the clocks
 
--- the clock that entry i relates, and the one that it relates it to, for the file of entry e
-abbrev pub ownClock : Text → List ℕ → ℕ → Clock
-ownClock s ix i = clockAt i (entryAt s ix i) (textCell s (colOf ix i 5)) (textCell s (colOf ix i 6))
-
-abbrev pub otherClock : Text → List ℕ → ℕ → ℕ → Clock
-otherClock s ix i e = clockAt e (entryAt s ix e) (textCell s (colOf ix i 10)) (textCell s (colOf ix i 9))
-
--- the same where they have names
+-- the two clocks of an entry where they have names
 abbrev pub ownShared : Text → List ℕ → ℕ → Clock
 ownShared s ix i = shared (cited-or (textCell s (colOf ix i 6)) (base (entryAt s ix i))) (domain (textAt s (colOf ix i 5)))
 

@@ -11,7 +11,7 @@ use Rattle.manifest.specs.Rows.{firstOr, entries}
 use Rattle.manifest.specs.Rules.{refusal-5-or-later}
 use Rattle.manifest.specs.Meaning.{Listed, names-in, listing, listings, meant}
 use Rattle.index.specs.Index.{entriesIn, entryAt, manifestOf}
-use Rattle.named.specs.Theorems.{count-is}
+use Rattle.finds.specs.laws.Lookups.{lookups-count}
 use Rattle.meant.specs.Told.{toldOwned, toldPart, Tells}
 use Rattle.meant.specs.Theorems.{listing-at, listings-length, entry-told}
 use Rattle.joins.specs.Own.{ownListed, ownAll, own}
@@ -52,7 +52,7 @@ module _ (s : Text) (ix : List ℕ) where
     unfolding meant
     own-tells = record {
       entries-told = sym (own-length 0 all ∙ listings-length s ix);
-      names-told = count-is s ix ∙ sym (length-take 32 (names-in (manifestOf s ix)));
+      names-told = lookups-count s ix ∙ sym (length-take 32 (names-in (manifestOf s ix)));
       entry-told = λ t. entry-told s ix t accepted ∙ sym (own-first t 0 all 0);
       base-told = λ {i} h d. sym (ap (λ (l : Listed). l .base) (own-listing h d));
       owned-told = λ {i} h d. own-owned-told s ix i ∙ sym (ap (λ (l : Listed). toldOwned (l .owns)) (own-listing h d));

@@ -21,9 +21,9 @@ use Rattle.manifest.specs.Statements.{At, here, further, All, all-one, Meets, s
 use Rattle.manifest.specs.laws.Accepted.{entries-sound}
 use Rattle.outline.specs.Outline.{domainAt}
 use Rattle.index.specs.Index.{textAt, colOf, entriesIn, at, textCell, syncBy, clocksBy, entryBy, itemsFrom, entryAt, manifestOf}
-use Rattle.finds.specs.Finds.{entryOf, nameFor, baseAt}
+use Rattle.finds.specs.Finds.{entryOf, nameFor, baseAt, lookups}
 use Rattle.finds.specs.Theorems.{find-is, name-is}
-use Rattle.named.specs.Named.{nameTable, numberAt}
+use Rattle.named.specs.Named.{numberAt}
 use Rattle.meant.specs.declared.Owned.the-variants.{Nobody, Whole, Split}
 use Rattle.meant.specs.declared.Part.{Part}
 use Rattle.meant.specs.declared.Part.the-variants.{Undeclared, Of}
@@ -32,6 +32,7 @@ use Rattle.meant.specs.Told.{toldOwned, partWith, toldPart}
 use Rattle.meant.specs.laws.Listings.{entry-at}
 use Rattle.meant.specs.laws.Parts.{partNamed}
 use Rattle.meant.specs.laws.Owners.{part-owned}
+use Rattle.meant.specs.laws.Links.{link-cites}
 use Rattle.merged.specs.Facts.{tieFrom, tieBy}
 use Rattle.joins.specs.Own.{idIn, machineIn, ownParts, ownOwns}
 
@@ -60,7 +61,7 @@ id-is z (negsuc n) e = absurd (true≢false (sym e))
 
 module _ (s : Text) (ix : List ℕ) (i z : ℕ) where
   abbrev its : Part
-  its = partOf s ix (nameTable s ix) i z
+  its = partOf s ix (lookups s ix) i z
 
   own-with : (l : List (ℤ × Machine)) → declares its ≡ declares (partWith z l) → its ≡ partWith z (ownParts s ix i l)
   unfolding ownParts partWith pick declares
@@ -69,8 +70,8 @@ module _ (s : Text) (ix : List ℕ) (i z : ℕ) where
     where
       go : (b : Bool) → same-id (pos z) (p .0) ≡ b → declares its ≡ declares (pick b (Of (p .1)) (partWith z l))
           → (declares its ≡ declares (partWith z l) → its ≡ partWith z (ownParts s ix i l))
-          → its ≡ pick b (Of (machineIn (partOf s ix (nameTable s ix) i (idIn (p .0))))) (partWith z (ownParts s ix i l))
-      go true q h rest = declared-so its h ∙ ap (λ (n : ℕ). Of (machineIn (partOf s ix (nameTable s ix) i n))) (sym (id-is z (p .0) q))
+          → its ≡ pick b (Of (machineIn (partOf s ix (lookups s ix) i (idIn (p .0))))) (partWith z (ownParts s ix i l))
+      go true q h rest = declared-so its h ∙ ap (λ (n : ℕ). Of (machineIn (partOf s ix (lookups s ix) i n))) (sym (id-is z (p .0) q))
       go false q h rest = rest h
 
   own-part : (o : Owns) → declares its ≡ declares (toldPart z o) → its ≡ toldPart z (ownOwns s ix i o)
@@ -88,16 +89,16 @@ inside (stands p) = p
 
 module _ (s : Text) (ix : List ℕ) where
   -- the machine of a name that stands at p, if one does
-  named-shape : (p : ℕ) → declares (pick (eqb p 0) Undeclared (Of (numberAt s (nameTable s ix) p))) ≡ declares (partNamed (manifestOf s ix) (textCell s p))
+  named-shape : (p : ℕ) → declares (pick (eqb p 0) Undeclared (Of (numberAt s (lookups s ix) p))) ≡ declares (partNamed (manifestOf s ix) (textCell s p))
   unfolding at pick partNamed declares
   named-shape p = go (eqb p 0)
     where
-      go : (b : Bool) → declares (pick b Undeclared (Of (numberAt s (nameTable s ix) p))) ≡ declares (partNamed (manifestOf s ix) (pick b absent (one (textAt s p))))
+      go : (b : Bool) → declares (pick b Undeclared (Of (numberAt s (lookups s ix) p))) ≡ declares (partNamed (manifestOf s ix) (pick b absent (one (textAt s p))))
       go true = refl
       go false = refl
 
   pub own-part-told : refusal-5-or-later (one (manifestOf s ix)) ≡ 0 → {i : ℕ} → i < entriesIn ix → (z : ℕ)
-      → partOf s ix (nameTable s ix) i z ≡ toldPart z (ownOwns s ix i (ownsOf (manifestOf s ix) (entryAt s ix i)))
+      → partOf s ix (lookups s ix) i z ≡ toldPart z (ownOwns s ix i (ownsOf (manifestOf s ix) (entryAt s ix i)))
   unfolding partOf
   own-part-told accepted {i} h z =
       own-part s ix i z (ownsOf (manifestOf s ix) (entryAt s ix i))
@@ -106,11 +107,11 @@ module _ (s : Text) (ix : List ℕ) where
 
   -- ---- the machine of a file
 
-  pub own-owned-told : (i : ℕ) → ownedOf s ix (nameTable s ix) i ≡ toldOwned (ownOwns s ix i (ownsOf (manifestOf s ix) (entryAt s ix i)))
+  pub own-owned-told : (i : ℕ) → ownedOf s ix (lookups s ix) i ≡ toldOwned (ownOwns s ix i (ownsOf (manifestOf s ix) (entryAt s ix i)))
   unfolding ownedOf toldOwned ownOwns ownsOf entryAt entryBy at is-absent pick
   own-owned-told i = go (eqb (colOf ix i 3) 0) (eqb (colOf ix i 1) 0)
     where
-      go : (b d : Bool) → pick b (pick d Nobody (Whole (baseOf s ix (nameTable s ix) i))) Split
+      go : (b d : Bool) → pick b (pick d Nobody (Whole (baseOf s ix (lookups s ix) i))) Split
           ≡ toldOwned (ownOwns s ix i (pick (not (is-absent (pick b absent (one (itemsFrom s ix i))))) (parts (flat (part (manifestOf s ix)) (its-items (entryAt s ix i))))
           (pick (is-absent {A = Named} (pick d absent (one (textCell s (colOf ix i 2), tt)))) nothing (whole-file (numberOf (names-in (manifestOf s ix)) (base (entryAt s ix i)))))))
       go true true = refl
@@ -162,23 +163,24 @@ module _ (s : Text) (ix : List ℕ) (i : ℕ) where
   abbrev its-file : ℕ
   its-file = entryOf (manifestOf s ix) (textAt s (colOf ix i 8))
 
-  cited-tie : (clock machine : ℕ) → tieFrom (citedAt s ix (nameTable s ix) i clock machine) ≡ tieFrom (cited (names-in (manifestOf s ix)) (clockAt i (entryAt s ix i) (textCell s clock) (textCell s machine)))
+  cited-tie : (clock machine : ℕ) → tieFrom (citedAt s ix (lookups s ix) i clock machine) ≡ tieFrom (cited (names-in (manifestOf s ix)) (clockAt i (entryAt s ix i) (textCell s clock) (textCell s machine)))
   unfolding citedAt cited clockAt at pick tieFrom
   cited-tie clock machine = go (eqb clock 0)
     where
-      go : (b : Bool) → tieFrom (pick b (Private i) (Domain (domainAt s clock) (numberAt s (nameTable s ix) (pick (eqb machine 0) (baseAt s ix i) machine))))
+      go : (b : Bool) → tieFrom (pick b (Private i) (Domain (domainAt s clock) (numberAt s (lookups s ix) (pick (eqb machine 0) (baseAt s ix i) machine))))
           ≡ tieFrom (cited (names-in (manifestOf s ix)) (clockAt i (entryAt s ix i) (pick b absent (one (textAt s clock))) (textCell s machine)))
       go true = refl
       go false = refl
 
-  own-ties : Ties (linkOf s ix (nameTable s ix) i) (linked (relation (manifestOf s ix) i (entryAt s ix i)))
-  unfolding linkOf entryAt entryBy clocksBy syncBy linked relatedTo tieBy
+  own-ties : Ties (linkOf s ix (lookups s ix) i) (linked (relation (manifestOf s ix) i (entryAt s ix i)))
+  unfolding entryAt entryBy clocksBy syncBy linked relatedTo tieBy
   own-ties =
-      tied-at (colOf ix i 4) (clocksBy s (colOf ix i)) (over-clocks m i e)
+      subst (λ (l : Link). Ties l (linked (relation (manifestOf s ix) i (entryAt s ix i)))) (sym (link-cites s ix i))
+      (tied-at (colOf ix i 4) (clocksBy s (colOf ix i)) (over-clocks m i e)
       (tied-at (colOf ix i 7) (syncBy s (colOf ix i)) (over-sync m i e c)
       (tied-by (colOf ix i 8) (textAt s (colOf ix i 8)) (λ t. find t 0 (entries m)) (over-entry m i e c u)
-      (subst (λ (x : Cell (ℕ × Entry)). Ties (pick (ltb its-file 32) (relatedTo s ix (nameTable s ix) i its-file) Unrelated) (linked (onto x (over-entry m i e c u)))) (sym (find-is s ix (textAt s (colOf ix i 8))))
-      (tied-if (ltb its-file 32) (its-file, entryAt s ix its-file) (over-entry m i e c u) (record { tie = cited-tie (colOf ix i 5) (colOf ix i 6) })))))
+      (subst (λ (x : Cell (ℕ × Entry)). Ties (pick (ltb its-file 32) (relatedTo s ix (lookups s ix) i its-file) Unrelated) (linked (onto x (over-entry m i e c u)))) (sym (find-is s ix (textAt s (colOf ix i 8))))
+      (tied-if (ltb its-file 32) (its-file, entryAt s ix its-file) (over-entry m i e c u) (record { tie = cited-tie (colOf ix i 5) (colOf ix i 6) }))))))
     where
       m : Manifest
       m = manifestOf s ix
@@ -192,5 +194,5 @@ module _ (s : Text) (ix : List ℕ) (i : ℕ) where
       u : SyncTo
       u = syncBy s (colOf ix i)
 
-  pub own-tie : tieBy (linkOf s ix (nameTable s ix) i) ≡ tieBy (linked (relation (manifestOf s ix) i (entryAt s ix i)))
+  pub own-tie : tieBy (linkOf s ix (lookups s ix) i) ≡ tieBy (linked (relation (manifestOf s ix) i (entryAt s ix i)))
   own-tie = own-ties .tie

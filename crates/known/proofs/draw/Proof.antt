@@ -18,7 +18,7 @@ links-requires : tie.Need-links-requires
 links-requires c κs = tt
 
 returns : tie.Need-returns
-returns c = holds-same (ap (λ (m : List ℕ). linksBy (c .before .before .before .before .before .before .before .before .before .before .before .args .s .now) (c .before .before .before .before .before .before .before .before .before .before .before .args .ix .now) (c .before .before .before .before .before .before .before .before .before .before .before .args .names .now) (c .before .before .before .before .before .before .before .before .before .before .before .args .t .now) m (c .before .before .before .before .before .before .before .before .before .before .before .args .b .now) (c .before .before .before .before .before .before .before .before .before .before .before .args .run .at) (c .before .before .before .before .before .before .before .before .before .before .before .args .run .count)) (c .before .before .before .before .before .before .before .machines .ensures .1)) (record { count = c .links .ensures .0; from = c .links .ensures .1 .0; reads = c .links .ensures .1 .1 .0; to = c .links .ensures .1 .1 .1 .0; gives = c .links .ensures .1 .1 .1 .1 })
+returns c = holds-same (ap (λ (m : List ℕ). linksBy (c .before .before .before .before .before .before .before .before .before .before .before .args .s .now) (c .before .before .before .before .before .before .before .before .before .before .before .args .ix .now) (c .before .before .before .before .before .before .before .before .before .before .before .args .lookups .now) (c .before .before .before .before .before .before .before .before .before .before .before .args .t .now) m (c .before .before .before .before .before .before .before .before .before .before .before .args .b .now) (c .before .before .before .before .before .before .before .before .before .before .before .args .run .at) (c .before .before .before .before .before .before .before .before .before .before .before .args .run .count)) (c .before .before .before .before .before .before .before .machines .ensures .1)) (record { count = c .links .ensures .0; from = c .links .ensures .1 .0; reads = c .links .ensures .1 .1 .0; to = c .links .ensures .1 .1 .1 .0; gives = c .links .ensures .1 .1 .1 .1 })
 
 pub draw-spec : {M : Type 1} → statement M
 draw-spec = tie.close (tie.spec machines-requires cast-at links-requires returns)

@@ -12,7 +12,7 @@ use Rattle.sheet.specs.Sheets.{readOf}
 use Rattle.sheet.specs.declared.Table.{Table}
 use Rattle.sheet.specs.declared.Sheet.{Sheet}
 use Rattle.sheet.specs.declared.Sheet.the-variants.{Refused as SheetRefused, Listed}
-use Rattle.reader.specs.Reader.{tableOf, namesOf}
+use Rattle.reader.specs.Reader.{tableOf, lookupsOf}
 use Rattle.graphs.specs.Links.{Link}
 use Rattle.merged.specs.Refusals.{checks, firstOf}
 use Rattle.merged.specs.Merged.{padded}
@@ -50,7 +50,7 @@ module _ (m : ℕ) (o : Sheet) (both : ℕ) (g : Given) where
 
 -- what is read, one table after the other
 pub read-made : (s : Text) (b : List ℕ) {ix names t : List ℕ} {o : Sheet} {p : Table} {m both n : ℕ} {g : Given} {r : Told} {a : List ℕ} {x : List ℤ} {c : List ℕ} {y : List ℤ}
-    → m ≡ refusalOf s → ix ≡ tableOf s → names ≡ namesOf s → o ≡ readOf b → t ≡ gathered s ix names b → both ≡ firstOf checks (factsBy t) → p ≡ tableIn o
+    → m ≡ refusalOf s → ix ≡ tableOf s → names ≡ lookupsOf s → o ≡ readOf b → t ≡ gathered s ix names b → both ≡ firstOf checks (factsBy t) → p ≡ tableIn o
     → Drawn s ix names t b (p .snapshots) n a x c y → g ≡ givenBy s ix names t p n → r ≡ verdict m o both g
     → (r ≡ told s b) × ((t ≡ factTable s b) × ((a ≡ padded 0 288 (map (λ l. l .a) (linksIn s b))) × ((x ≡ padded (pos 0) 288 (map (λ l. l .x) (linksIn s b))) × ((c ≡ padded 0 288 (map (λ l. l .b) (linksIn s b))) × (y ≡ padded (pos 0) 288 (map (λ l. l .y) (linksIn s b)))))))
 unfolding told

@@ -19,10 +19,10 @@ count-requires : tie.Need-count-requires Inv-loop μ-loop
 count-requires c κs = search needs
 
 loop-holds : tie.Need-loop-holds Inv-loop μ-loop
-loop-holds c = (omega arith, adds-same (to-none (c .before .before .args .s .now) (c .before .before .args .ix .now) (c .before .before .args .names .now) (c .before .before .args .t .now)) (adds-none 0 (c .before .before .pre)))
+loop-holds c = (omega arith, adds-same (to-none (c .before .before .args .s .now) (c .before .before .args .ix .now) (c .before .before .args .lookups .now) (c .before .before .args .t .now)) (adds-none 0 (c .before .before .pre)))
 
 entry-link-requires : tie.Need-entry-link-requires Inv-loop μ-loop
-entry-link-requires c κs = (omega (arith, c .before .before .before .before .before .loop .inv .1 .count, to-most (c .before .before .before .before .before .before .before .before .args .s .now) (c .before .before .before .before .before .before .before .before .args .ix .now) (c .before .before .before .before .before .before .before .before .args .names .now) (c .before .before .before .before .before .before .before .before .args .t .now) (c .before .before .before .before .before .loop .i), entries-few (c .before .before .before .before .before .before .before .before .args .s .now) (c .before .before .before .before .before .before .before .before .args .ix .now) (c .before .before .before .before .before .before .before .before .args .names .now) (c .before .before .before .before .before .before .before .before .args .t .now), c .before .before .before .before .before .before .count .ensures), c .before .before .before .before .before .loop .inv .1 .sized)
+entry-link-requires c κs = (omega (arith, c .before .before .before .before .before .loop .inv .1 .count, to-most (c .before .before .before .before .before .before .before .before .args .s .now) (c .before .before .before .before .before .before .before .before .args .ix .now) (c .before .before .before .before .before .before .before .before .args .lookups .now) (c .before .before .before .before .before .before .before .before .args .t .now) (c .before .before .before .before .before .loop .i), entries-few (c .before .before .before .before .before .before .before .before .args .s .now) (c .before .before .before .before .before .before .before .before .args .ix .now) (c .before .before .before .before .before .before .before .before .args .lookups .now) (c .before .before .before .before .before .before .before .before .args .t .now), c .before .before .before .before .before .before .count .ensures), c .before .before .before .before .before .loop .inv .1 .sized)
 
 add-i : tie.Need-add-i Inv-loop μ-loop
 add-i c = search needs
@@ -31,10 +31,10 @@ loop-less : tie.Need-loop-less Inv-loop μ-loop
 loop-less c = search needs
 
 loop-again : tie.Need-loop-again Inv-loop μ-loop
-loop-again c = (omega arith, adds-same (to-more (c .before .before .before .before .before .before .before .before .before .args .s .now) (c .before .before .before .before .before .before .before .before .before .args .ix .now) (c .before .before .before .before .before .before .before .before .before .args .names .now) (c .before .before .before .before .before .before .before .before .before .args .t .now) (c .before .before .before .before .before .before .loop .i)) (adds-both (c .before .before .before .before .before .before .loop .inv .1) (c .entry-link .ensures)))
+loop-again c = (omega arith, adds-same (to-more (c .before .before .before .before .before .before .before .before .before .args .s .now) (c .before .before .before .before .before .before .before .before .before .args .ix .now) (c .before .before .before .before .before .before .before .before .before .args .lookups .now) (c .before .before .before .before .before .before .before .before .before .args .t .now) (c .before .before .before .before .before .before .loop .i)) (adds-both (c .before .before .before .before .before .before .loop .inv .1) (c .entry-link .ensures)))
 
 returns : tie.Need-returns Inv-loop μ-loop
-returns c = let e : c .before .loop .i ≡ entriesIn (c .before .before .before .before .args .ix .now) = omega (arith, c .before .before .count .ensures, c .before .loop .inv .0) in adds-same (ap (entriesTo (c .before .before .before .before .args .s .now) (c .before .before .before .before .args .ix .now) (c .before .before .before .before .args .names .now) (c .before .before .before .before .args .t .now)) e ∙ to-all (c .before .before .before .before .args .s .now) (c .before .before .before .before .args .ix .now) (c .before .before .before .before .args .names .now) (c .before .before .before .before .args .t .now)) (c .before .loop .inv .1)
+returns c = let e : c .before .loop .i ≡ entriesIn (c .before .before .before .before .args .ix .now) = omega (arith, c .before .before .count .ensures, c .before .loop .inv .0) in adds-same (ap (entriesTo (c .before .before .before .before .args .s .now) (c .before .before .before .before .args .ix .now) (c .before .before .before .before .args .lookups .now) (c .before .before .before .before .args .t .now)) e ∙ to-all (c .before .before .before .before .args .s .now) (c .before .before .before .before .args .ix .now) (c .before .before .before .before .args .lookups .now) (c .before .before .before .before .args .t .now)) (c .before .loop .inv .1)
 
 pub entry-links-spec : {M : Type 1} → statement M
 entry-links-spec =

@@ -11,7 +11,7 @@ entry-links-requires : tie.Need-entry-links-requires
 entry-links-requires c κs = search needs
 
 snapshot-links-requires : tie.Need-snapshot-links-requires
-snapshot-links-requires c κs = (omega (arith, c .before .before .before .before .entry-links .ensures .count, entries-most (c .before .before .before .before .before .before .before .before .before .before .before .args .s .now) (c .before .before .before .before .before .before .before .before .before .before .before .args .ix .now) (c .before .before .before .before .before .before .before .before .before .before .before .args .names .now) (c .before .before .before .before .before .before .before .before .before .before .before .args .t .now)), c .before .before .before .before .entry-links .ensures .sized)
+snapshot-links-requires c κs = (omega (arith, c .before .before .before .before .entry-links .ensures .count, entries-most (c .before .before .before .before .before .before .before .before .before .before .before .args .s .now) (c .before .before .before .before .before .before .before .before .before .before .before .args .ix .now) (c .before .before .before .before .before .before .before .before .before .before .before .args .lookups .now) (c .before .before .before .before .before .before .before .before .before .before .before .args .t .now)), c .before .before .before .before .entry-links .ensures .sized)
 
 returns : tie.Need-returns
 unfolding linksBy

@@ -11,7 +11,7 @@ number-at-requires : tie.Need-number-at-requires
 number-at-requires c κs = search needs
 
 returns : tie.Need-returns
-returns c = base-step (c .before .before .before .args .s .now) (c .before .before .before .args .ix .now) (c .before .before .before .args .names .now) _ (c .before .base-at .ensures) (c .number-at .ensures)
+returns c = base-step (c .before .before .before .args .s .now) (c .before .before .before .args .ix .now) (c .before .before .before .args .lookups .now) _ (c .before .base-at .ensures) (c .number-at .ensures)
 
 pub base-spec : {M : Type 1} → statement M
 base-spec = tie.close (tie.spec base-at-requires number-at-requires returns)

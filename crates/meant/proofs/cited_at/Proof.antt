@@ -8,7 +8,7 @@ cast-t11 : tie.Need-cast-t11
 cast-t11 c = search needs
 
 returns : tie.Need-returns
-returns c = cited-private (c .before .before .args .s .now) (c .before .before .args .ix .now) (c .before .before .args .names .now) _ _ _ (c .if1 .taken)
+returns c = cited-private (c .before .before .args .s .now) (c .before .before .args .ix .now) (c .before .before .args .lookups .now) _ _ _ (c .if1 .taken)
 
 domain-requires : tie.Need-domain-requires
 domain-requires c κs = search needs
@@ -20,7 +20,7 @@ number-at-requires : tie.Need-number-at-requires
 number-at-requires c κs = search needs
 
 returns-2 : tie.Need-returns-2
-returns-2 c = cited-domain (c .before .before .before .before .before .args .s .now) (c .before .before .before .before .before .args .ix .now) (c .before .before .before .before .before .args .names .now) _ _ _ (c .before .before .before .if1 .left) (c .before .before .domain .ensures) (c .before .machine-at .ensures) (c .number-at .ensures)
+returns-2 c = cited-domain (c .before .before .before .before .before .args .s .now) (c .before .before .before .before .before .args .ix .now) (c .before .before .before .before .before .args .lookups .now) _ _ _ (c .before .before .before .if1 .left) (c .before .before .domain .ensures) (c .before .machine-at .ensures) (c .number-at .ensures)
 
 pub cited-at-spec : {M : Type 1} → statement M
 cited-at-spec =

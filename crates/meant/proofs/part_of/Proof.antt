@@ -8,13 +8,13 @@ name-for-requires : tie.Need-name-for-requires
 name-for-requires c κs = search needs
 
 returns : tie.Need-returns
-returns c = part-none (c .before .before .before .args .s .now) (c .before .before .before .args .ix .now) (c .before .before .before .args .names .now) _ _ (c .before .name-for .ensures) (c .if1 .taken)
+returns c = part-none (c .before .before .before .args .s .now) (c .before .before .before .args .ix .now) (c .before .before .before .args .lookups .now) _ _ (c .before .name-for .ensures) (c .if1 .taken)
 
 number-at-requires : tie.Need-number-at-requires
 number-at-requires c κs = search needs
 
 returns-2 : tie.Need-returns-2
-returns-2 c = part-some (c .before .before .before .before .args .s .now) (c .before .before .before .before .args .ix .now) (c .before .before .before .before .args .names .now) _ _ (c .before .before .name-for .ensures) (c .before .if1 .left) (c .number-at .ensures)
+returns-2 c = part-some (c .before .before .before .before .args .s .now) (c .before .before .before .before .args .ix .now) (c .before .before .before .before .args .lookups .now) _ _ (c .before .before .name-for .ensures) (c .before .if1 .left) (c .number-at .ensures)
 
 pub part-of-spec : {M : Type 1} → statement M
 part-of-spec = tie.close (tie.spec name-for-requires returns number-at-requires returns-2)

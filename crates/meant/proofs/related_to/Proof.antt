@@ -29,7 +29,7 @@ offset-at-requires : tie.Need-offset-at-requires
 offset-at-requires c κs = search needs
 
 returns : tie.Need-returns
-returns c = related (c .before .before .before .before .before .before .before .before .before .args .s .now) (c .before .before .before .before .before .before .before .before .before .args .ix .now) (c .before .before .before .before .before .before .before .before .before .args .names .now) _ _ (c .before .before .before .before .before .before .before .col .ensures) (c .before .before .before .before .before .before .col2 .ensures) (c .before .before .before .before .before .cited-at .ensures) (c .before .before .before .before .col3 .ensures) (c .before .before .before .col4 .ensures) (c .before .before .cited-at2 .ensures) (c .before .col5 .ensures) (c .offset-at .ensures (c .before .before .before .before .before .before .before .before .before .args .ix .now) (c .before .before .before .before .before .before .before .before .before .args .names .now)) (record { sfits = c .offset-at .ok })
+returns c = related (c .before .before .before .before .before .before .before .before .before .args .s .now) (c .before .before .before .before .before .before .before .before .before .args .ix .now) (c .before .before .before .before .before .before .before .before .before .args .lookups .now) _ _ (c .before .before .before .before .before .before .before .col .ensures) (c .before .before .before .before .before .before .col2 .ensures) (c .before .before .before .before .before .cited-at .ensures) (c .before .before .before .before .col3 .ensures) (c .before .before .before .col4 .ensures) (c .before .before .cited-at2 .ensures) (c .before .col5 .ensures) (c .offset-at .ensures (c .before .before .before .before .before .before .before .before .before .args .ix .now) (c .before .before .before .before .before .before .before .before .before .args .lookups .now)) (record { sfits = c .offset-at .ok })
 
 pub related-to-spec : {M : Type 1} → statement M
 related-to-spec =

@@ -2,10 +2,14 @@
 use mathlib.Core.Path.{_≡_, refl, sym, ap, _∙_}
 use mathlib.Core.Bool.{Bool, true, false}
 use mathlib.Core.List.{List}
-use Prim.Native.Nat.{ℕ, _+_, _≤_, _<_}
+use Prim.Native.Nat.{ℕ, _+_, _-_, _≤_, _<_}
+use native.Mathlib.Omega.{arith}
+use native.Mathlib.Decide.{decLt}
+use borrow.Author.Tests.{eq-eqb, ne-eqb, lt-ltb, le-ltb}
 use lib.Dec.{eqb, ltb}
-use lib.ListN.{length}
+use lib.ListN.{length, getD}
 use Rattle.text.specs.Reading.{Text, Out, done, bad, deep, pick}
+use Rattle.text.specs.laws.Readers.{pick-true, pick-false}
 use Rattle.text.specs.Strings.{string}
 use Rattle.manifest.specs.declared.Cited.the-variants.{Private, Domain}
 use Rattle.manifest.specs.declared.Relation.{Relation}
@@ -21,11 +25,11 @@ use Rattle.manifest.specs.laws.Lists.{anyAt-false}
 use Rattle.manifest.specs.laws.Accepted.{no-rule}
 use Rattle.outline.specs.Outline.{domainAt, textAt as outlineText, textIn as outlineIn}
 use Rattle.index.specs.Index.{textIn, textAt, colOf, entriesIn, at, textCell, offsetCell, syncBy, clocksBy, entryBy, entryAt, manifestOf, whoseAt}
-use Rattle.finds.specs.Finds.{entryOf, baseAt}
+use Rattle.finds.specs.Finds.{entryOf, baseAt, lookups, citedBy, fromOne}
 use Rattle.finds.specs.Theorems.{find-is, base-is}
-use Rattle.named.specs.Named.{nameTable, numberAt}
-use Rattle.named.specs.Theorems.{number-is}
-use Rattle.meant.specs.Meant.{citedAt, offsetAt, relatedTo, linkOf}
+use Rattle.named.specs.Named.{numberAt}
+use Rattle.finds.specs.laws.Lookups.{lookups-number, lookups-cited}
+use Rattle.meant.specs.Meant.{citedAt, offsetAt, relatedTo, citesBy, linkOf}
 use Rattle.meant.specs.laws.Listings.{entry-at}
 use Rattle.meant.specs.laws.Offsets.{offset-is}
 
@@ -118,20 +122,77 @@ module _ (s : Text) (ix : List ℕ) {i : ℕ} (below : i < entriesIn ix) where
         (offset-not no-integer (within-not refusal-22-offset-not-an-integer (not-22 (manifestOf s ix) (no-rule (manifestOf s ix) accepted))) e)
         (offset-not too-far (within-not refusal-23-offset-out-of-range (not-23 (manifestOf s ix) (no-rule (manifestOf s ix) accepted))) e)
 
+-- ---- the entry that is cited
+
+-- by its number from 1 on
+cited-shape : (r : ℕ → Link) (e : ℕ) → pick (eqb (fromOne e) 0) Unrelated (pick (ltb 32 (fromOne e)) Unrelated (r (fromOne e - 1))) ≡ pick (ltb e 32) (r e) Unrelated
+unfolding fromOne pick
+cited-shape r e = go (decLt e 32)
+  where
+    by : ℕ → Link
+    by c = pick (eqb c 0) Unrelated (pick (ltb 32 c) Unrelated (r (c - 1)))
+
+    go : Dec (e < 32) → by (pick (ltb e 32) (e + 1) 0) ≡ pick (ltb e 32) (r e) Unrelated
+    go (yes h) =
+        let z : e + 1 - 1 ≡ e = omega arith in
+        ap by (pick-true (e + 1) 0 (lt-ltb e 32 h))
+        ∙ (pick-false Unrelated _ (ne-eqb (e + 1) 0 (λ (q : e + 1 ≡ 0). omega arith))
+        ∙ (pick-false Unrelated _ (le-ltb 32 (e + 1) (omega arith))
+        ∙ (ap r z ∙ sym (pick-true (r e) Unrelated (lt-ltb e 32 h)))))
+    go (no h) = let l : 32 ≤ e = omega arith in ap by (pick-false (e + 1) 0 (le-ltb e 32 l)) ∙ sym (pick-false (r e) Unrelated (le-ltb e 32 l))
+
+-- without a `file` none is
+cited-file : (r : ℕ → Link) (b : Bool) (e : ℕ) → pick (ltb (pick b 32 e) 32) (r (pick b 32 e)) Unrelated ≡ pick b Unrelated (pick (ltb e 32) (r e) Unrelated)
+unfolding pick
+cited-file r true e = refl
+cited-file r false e = refl
+
+-- there is no column of an entry from 32 on
+no-column : (ix : List ℕ) {i : ℕ} → 32 ≤ i → (j : ℕ) → eqb (colOf ix i j) 0 ≡ true
+unfolding colOf
+no-column ix {i} h j = eq-eqb (colOf ix i j) 0 (pick-false _ 0 (le-ltb i 32 h))
+
+-- the table's answer in terms of the text
+pub link-cites : (s : Text) (ix : List ℕ) (i : ℕ)
+    → linkOf s ix (lookups s ix) i
+    ≡ pick (eqb (colOf ix i 4) 0) Unrelated
+    (pick (eqb (colOf ix i 7) 0) Unrelated
+    (pick (eqb (colOf ix i 8) 0) Unrelated
+    (pick (ltb (entryOf (manifestOf s ix) (textAt s (colOf ix i 8))) 32)
+    (relatedTo s ix (lookups s ix) i (entryOf (manifestOf s ix) (textAt s (colOf ix i 8))))
+    Unrelated)))
+unfolding linkOf citesBy citedBy
+link-cites s ix i = go (decLt i 32)
+  where
+    r : ℕ → Link
+    r = relatedTo s ix (lookups s ix) i
+
+    file : ℕ
+    file = entryOf (manifestOf s ix) (textAt s (colOf ix i 8))
+
+    go : Dec (i < 32)
+        → pick (eqb (colOf ix i 4) 0) Unrelated (pick (eqb (colOf ix i 7) 0) Unrelated (pick (eqb (getD (lookups s ix) (64 + i) 0) 0) Unrelated (pick (ltb 32 (getD (lookups s ix) (64 + i) 0)) Unrelated (r (getD (lookups s ix) (64 + i) 0 - 1)))))
+        ≡ pick (eqb (colOf ix i 4) 0) Unrelated (pick (eqb (colOf ix i 7) 0) Unrelated (pick (eqb (colOf ix i 8) 0) Unrelated (pick (ltb file 32) (r file) Unrelated)))
+    go (yes few) =
+        ap (λ (l : Link). pick (eqb (colOf ix i 4) 0) Unrelated (pick (eqb (colOf ix i 7) 0) Unrelated l))
+        (ap (λ (c : ℕ). pick (eqb c 0) Unrelated (pick (ltb 32 c) Unrelated (r (c - 1)))) (lookups-cited s ix i few)
+        ∙ (cited-shape r (citedBy s ix i) ∙ cited-file r (eqb (colOf ix i 8) 0) file))
+    go (no many) = let h : 32 ≤ i = omega arith in pick-true Unrelated _ (no-column ix h 4) ∙ sym (pick-true Unrelated _ (no-column ix h 4))
+
 -- ---- the clocks
 
 module _ (s : Text) (ix : List ℕ) (few : length (names-in (manifestOf s ix)) ≤ 32) where
   -- the machine that a `machine` at a position names, or else the base machine of the file of entry i
-  machine-told : (i machine : ℕ) → numberAt s (nameTable s ix) (pick (eqb machine 0) (baseAt s ix i) machine) ≡ numberOf (names-in (manifestOf s ix)) (cited-or (textCell s machine) (base (entryAt s ix i)))
+  machine-told : (i machine : ℕ) → numberAt s (lookups s ix) (pick (eqb machine 0) (baseAt s ix i) machine) ≡ numberOf (names-in (manifestOf s ix)) (cited-or (textCell s machine) (base (entryAt s ix i)))
   machine-told i machine =
-      number-is s ix (pick (eqb machine 0) (baseAt s ix i) machine) few
+      lookups-number s ix (pick (eqb machine 0) (baseAt s ix i) machine) few
       ∙ ap (numberOf (names-in (manifestOf s ix))) (whose-or s (baseAt s ix i) machine ∙ ap (cited-or (textCell s machine)) (sym (base-is s ix i)))
 
-  pub cited-told : (i clock machine : ℕ) → citedAt s ix (nameTable s ix) i clock machine ≡ cited (names-in (manifestOf s ix)) (clockAt i (entryAt s ix i) (textCell s clock) (textCell s machine))
+  pub cited-told : (i clock machine : ℕ) → citedAt s ix (lookups s ix) i clock machine ≡ cited (names-in (manifestOf s ix)) (clockAt i (entryAt s ix i) (textCell s clock) (textCell s machine))
   unfolding citedAt cited clockAt at pick
   cited-told i clock machine = go (eqb clock 0)
     where
-      go : (b : Bool) → pick b (Private i) (Domain (domainAt s clock) (numberAt s (nameTable s ix) (pick (eqb machine 0) (baseAt s ix i) machine)))
+      go : (b : Bool) → pick b (Private i) (Domain (domainAt s clock) (numberAt s (lookups s ix) (pick (eqb machine 0) (baseAt s ix i) machine)))
           ≡ cited (names-in (manifestOf s ix)) (clockAt i (entryAt s ix i) (pick b absent (one (textAt s clock))) (textCell s machine))
       go true = refl
       go false = λ j. Domain (domain-is s clock j) (machine-told i machine j)
@@ -141,7 +202,7 @@ module _ (s : Text) (ix : List ℕ) (few : length (names-in (manifestOf s ix)) �
     its-file = entryOf (manifestOf s ix) (textAt s (colOf ix i 8))
 
     related-told : eqb (colOf ix i 4) 0 ≡ false
-        → relatedTo s ix (nameTable s ix) i its-file
+        → relatedTo s ix (lookups s ix) i its-file
         ≡ Related (record {
           from = cited (names-in (manifestOf s ix)) (source i (entryAt s ix i) (clocksBy s (colOf ix i)));
           to = cited (names-in (manifestOf s ix)) (reference (its-file, entryAt s ix its-file) (syncBy s (colOf ix i)));
@@ -151,13 +212,14 @@ module _ (s : Text) (ix : List ℕ) (few : length (names-in (manifestOf s ix)) �
     related-told e = λ j. Related (record {
       from = cited-told i (colOf ix i 5) (colOf ix i 6) j;
       to = cited-told its-file (colOf ix i 10) (colOf ix i 9) j;
-      offset = offset-told s ix below accepted (nameTable s ix) e j;
+      offset = offset-told s ix below accepted (lookups s ix) e j;
     })
 
-    pub link-is : linkOf s ix (nameTable s ix) i ≡ linked (relation (manifestOf s ix) i (entryAt s ix i))
-    unfolding linkOf entryAt entryBy clocksBy syncBy linked
+    pub link-is : linkOf s ix (lookups s ix) i ≡ linked (relation (manifestOf s ix) i (entryAt s ix i))
+    unfolding entryAt entryBy clocksBy syncBy linked
     link-is =
-        linked-at (colOf ix i 4) (clocksBy s (colOf ix i)) (over-clocks m i e) (λ h.
+        link-cites s ix i
+        ∙ linked-at (colOf ix i 4) (clocksBy s (colOf ix i)) (over-clocks m i e) (λ h.
         linked-at (colOf ix i 7) (syncBy s (colOf ix i)) (over-sync m i e c) (λ _.
         linked-by (colOf ix i 8) (textAt s (colOf ix i 8)) (λ t. find t 0 (entries m)) (over-entry m i e c u)
         (linked-if (ltb its-file 32) (its-file, entryAt s ix its-file) (over-entry m i e c u) (related-told h)

@@ -15,10 +15,10 @@ use Rattle.manifest.specs.Meaning.{nothing, whole-file, parts, names-in, number
 use Rattle.manifest.specs.Statements.{At, here, further, All, all-one, Meets, left-out, stands, Sound}
 use Rattle.manifest.specs.laws.Accepted.{entries-sound}
 use Rattle.index.specs.Index.{textAt, colOf, entriesIn, at, textCell, entryBy, itemsFrom, entryAt, manifestOf, whoseAt}
-use Rattle.finds.specs.Finds.{nameFor, baseAt}
+use Rattle.finds.specs.Finds.{nameFor, baseAt, lookups}
 use Rattle.finds.specs.Theorems.{name-is, base-is}
-use Rattle.named.specs.Named.{nameTable, numberAt}
-use Rattle.named.specs.Theorems.{number-is}
+use Rattle.named.specs.Named.{numberAt}
+use Rattle.finds.specs.laws.Lookups.{lookups-number}
 use Rattle.meant.specs.declared.Owned.the-variants.{Nobody, Whole, Split}
 use Rattle.meant.specs.declared.Part.the-variants.{Undeclared, Of}
 use Rattle.meant.specs.Meant.{baseOf, ownedOf, partOf}
@@ -47,15 +47,15 @@ part-owned m z e = go (machinesOf e) (is-absent (machineOf e))
     go (one l) b (stands q) = part-named m z q
 
 module _ (s : Text) (ix : List ℕ) (few : length (names-in (manifestOf s ix)) ≤ 32) where
-  pub base-number : (i : ℕ) → baseOf s ix (nameTable s ix) i ≡ numberOf (names-in (manifestOf s ix)) (base (entryAt s ix i))
+  pub base-number : (i : ℕ) → baseOf s ix (lookups s ix) i ≡ numberOf (names-in (manifestOf s ix)) (base (entryAt s ix i))
   unfolding baseOf
-  base-number i = number-is s ix (baseAt s ix i) few ∙ ap (numberOf (names-in (manifestOf s ix))) (sym (base-is s ix i))
+  base-number i = lookups-number s ix (baseAt s ix i) few ∙ ap (numberOf (names-in (manifestOf s ix))) (sym (base-is s ix i))
 
-  pub owned-is : (i : ℕ) → ownedOf s ix (nameTable s ix) i ≡ toldOwned (ownsOf (manifestOf s ix) (entryAt s ix i))
+  pub owned-is : (i : ℕ) → ownedOf s ix (lookups s ix) i ≡ toldOwned (ownsOf (manifestOf s ix) (entryAt s ix i))
   unfolding ownedOf toldOwned ownsOf entryAt entryBy at is-absent pick
   owned-is i = go (eqb (colOf ix i 3) 0) (eqb (colOf ix i 1) 0)
     where
-      go : (b d : Bool) → pick b (pick d Nobody (Whole (baseOf s ix (nameTable s ix) i))) Split
+      go : (b d : Bool) → pick b (pick d Nobody (Whole (baseOf s ix (lookups s ix) i))) Split
           ≡ toldOwned (pick (not (is-absent (pick b absent (one (itemsFrom s ix i))))) (parts (flat (part (manifestOf s ix)) (its-items (entryAt s ix i))))
           (pick (is-absent {A = Named} (pick d absent (one (textCell s (colOf ix i 2), tt)))) nothing (whole-file (numberOf (names-in (manifestOf s ix)) (base (entryAt s ix i))))))
       go true true = refl
@@ -63,16 +63,16 @@ module _ (s : Text) (ix : List ℕ) (few : length (names-in (manifestOf s ix)) �
       go false d = refl
 
   -- the machine whose name stands at p, if one does
-  named-at : (p : ℕ) → pick (eqb p 0) Undeclared (Of (numberAt s (nameTable s ix) p)) ≡ partNamed (manifestOf s ix) (textCell s p)
+  named-at : (p : ℕ) → pick (eqb p 0) Undeclared (Of (numberAt s (lookups s ix) p)) ≡ partNamed (manifestOf s ix) (textCell s p)
   unfolding at pick partNamed whoseAt
   named-at p = go (eqb p 0) refl
     where
-      go : (b : Bool) → eqb p 0 ≡ b → pick b Undeclared (Of (numberAt s (nameTable s ix) p)) ≡ partNamed (manifestOf s ix) (pick b absent (one (textAt s p)))
+      go : (b : Bool) → eqb p 0 ≡ b → pick b Undeclared (Of (numberAt s (lookups s ix) p)) ≡ partNamed (manifestOf s ix) (pick b absent (one (textAt s p)))
       go true e = refl
-      go false e = ap Of (number-is s ix p few ∙ ap (λ (b : Bool). numberOf (names-in (manifestOf s ix)) (pick b host (called (textAt s p)))) e)
+      go false e = ap Of (lookups-number s ix p few ∙ ap (λ (b : Bool). numberOf (names-in (manifestOf s ix)) (pick b host (called (textAt s p)))) e)
 
   pub part-is : refusal-5-or-later (one (manifestOf s ix)) ≡ 0 → {i : ℕ} → i < entriesIn ix → (z : ℕ)
-      → partOf s ix (nameTable s ix) i z ≡ toldPart z (ownsOf (manifestOf s ix) (entryAt s ix i))
+      → partOf s ix (lookups s ix) i z ≡ toldPart z (ownsOf (manifestOf s ix) (entryAt s ix i))
   unfolding partOf
   part-is accepted {i} h z =
       named-at (nameFor s ix i z)

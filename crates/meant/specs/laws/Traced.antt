@@ -16,10 +16,10 @@ use Rattle.manifest.specs.Statements.{Meets, stands, SoundRow}
 use Rattle.manifest.specs.laws.Accepted.{members-sound}
 use Rattle.outline.specs.Outline.{domainAt}
 use Rattle.index.specs.Index.{textAt, at, textCell, traceAt, entryAt, manifestOf, whoseAt}
-use Rattle.finds.specs.Finds.{entryOf, baseAt}
+use Rattle.finds.specs.Finds.{entryOf, baseAt, lookups}
 use Rattle.finds.specs.Theorems.{find-is, base-is}
-use Rattle.named.specs.Named.{nameTable, numberAt}
-use Rattle.named.specs.Theorems.{number-is}
+use Rattle.named.specs.Named.{numberAt}
+use Rattle.finds.specs.laws.Lookups.{lookups-number}
 use Rattle.meant.specs.Meant.{traceMachineAt, timelineOf}
 use Rattle.meant.specs.laws.Links.{domain-is, whose-or}
 
@@ -47,18 +47,18 @@ module _ (s : Text) (ix : List ℕ) (few : length (names-in (manifestOf s ix)) �
       go true = refl
       go false = found (ltb (entryOf (manifestOf s ix) (textAt s p)) 32) (entryOf (manifestOf s ix) (textAt s p)) ∙ sym (ap base-of (find-is s ix (textAt s p)))
 
-  trace-machine-told : numberAt s (nameTable s ix) (traceMachineAt s ix (nameTable s ix))
+  trace-machine-told : numberAt s (lookups s ix) (traceMachineAt s ix (lookups s ix))
       ≡ numberOf (names-in (manifestOf s ix)) (cited-or (textCell s (getD ix 4 0)) (base-of (named-entry (manifestOf s ix) (textCell s (getD ix 3 0)))))
   unfolding traceMachineAt
   trace-machine-told =
-      number-is s ix (traceMachineAt s ix (nameTable s ix)) few
+      lookups-number s ix (traceMachineAt s ix (lookups s ix)) few
       ∙ ap (numberOf (names-in (manifestOf s ix))) (whose-or s _ (getD ix 4 0) ∙ ap (cited-or (textCell s (getD ix 4 0))) (file-base (getD ix 3 0)))
 
-  pub timeline-is : refusal-5-or-later (one (manifestOf s ix)) ≡ 0 → timelineOf s ix (nameTable s ix) ≡ timeline (manifestOf s ix) (traceTime (manifestOf s ix))
+  pub timeline-is : refusal-5-or-later (one (manifestOf s ix)) ≡ 0 → timelineOf s ix (lookups s ix) ≡ timeline (manifestOf s ix) (traceTime (manifestOf s ix))
   unfolding timelineOf manifestOf timeline traceAt at pick
   timeline-is accepted = go (eqb (getD ix 1 0) 0) (members-sound (manifestOf s ix) accepted .1 .0)
     where
       go : (b : Bool) → Meets (λ (v : TraceTime). SoundRow trace-time v) false (pick b absent (one (traceAt s ix)))
-          → pick b Unset (Set (domainAt s (getD ix 2 0)) (numberAt s (nameTable s ix) (traceMachineAt s ix (nameTable s ix)))) ≡ timeline (manifestOf s ix) (pick b absent (one (traceAt s ix)))
+          → pick b Unset (Set (domainAt s (getD ix 2 0)) (numberAt s (lookups s ix) (traceMachineAt s ix (lookups s ix)))) ≡ timeline (manifestOf s ix) (pick b absent (one (traceAt s ix)))
       go true k = refl
       go false (stands k) = λ j. Set ((domain-is s (getD ix 2 0) ∙ ap domain (required-text (getD ix 2 0) (textAt s (getD ix 2 0)) (k .0))) j) (trace-machine-told j)

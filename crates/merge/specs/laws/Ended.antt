@@ -9,7 +9,7 @@ use lib.IntN.{ℤ, pos}
 use lib.ListN.{length, take, replicate}
 use Rattle.text.specs.Reading.{Text, pick}
 use Rattle.sheet.specs.declared.Table.{Table}
-use Rattle.reader.specs.Reader.{tableOf, namesOf}
+use Rattle.reader.specs.Reader.{tableOf, lookupsOf}
 use Rattle.meant.specs.Meant.{timelineOf}
 use Rattle.clocks.specs.Answers.{Room as ClocksRoom, Filled, filled}
 use Rattle.graphs.specs.Graphs.{World}
@@ -106,7 +106,7 @@ module _ (s : Text) (b m : List ℕ) (ti : List ℤ) (ki st x : List ℕ) (re : 
       machines-same t (k .sources) (length m) (omega (arith, y .sources, sources-are h)) (long .machines) (machine-small (h .tables) (h .none)) ∙ machines-front
 
   -- the answer
-  answer-is : summed (k .given) ≡ Merged (record { files = h .p .files; machines = machineCount (factsBy t); events = h .p .events .count; trace = traceOf (factsBy t) (timelineOf s (tableOf s) (namesOf s)) })
+  answer-is : summed (k .given) ≡ Merged (record { files = h .p .files; machines = machineCount (factsBy t); events = h .p .events .count; trace = traceOf (factsBy t) (timelineOf s (tableOf s) (lookupsOf s)) })
   unfolding summed traceOf
   answer-is = λ i. Merged (record { files = files-are h i; machines = machines-are h i; events = events-are h i; trace = pick (eqb ((files-are h ∙ sym (files-counted (h .tables) (h .none))) i) 0) Nothing (On (record { 0 = trace-is h i })) })
 
@@ -123,23 +123,23 @@ module _ (s : Text) (b m : List ℕ) (ti : List ℤ) (ki st x : List ℕ) (re : 
       (marked-same (λ e. e .reading) b (k .at) (k .given .events) (length c) (length re) re n (long .clocks) (long .readings) i)
       (record { times = length ti; kinds = length ki; steps = length st; matrix = z i })
 
-  timed : {u : List ℕ} → u ≡ t → {w : World} → w ≡ worldBy s b (tableOf s) (namesOf s) t (h .p)
+  timed : {u : List ℕ} → u ≡ t → {w : World} → w ≡ worldBy s b (tableOf s) (lookupsOf s) t (h .p)
       → {ti' : List ℤ} {ki' st' : List ℕ} → Answered (eventsIn u b k w c re (record { times = length ti; kinds = length ki; steps = length st; matrix = cells x })) ti' ki' st'
-      → Timed (answersBy s b (tableOf s) (namesOf s) t (h .p)) (length ti) (length ki) (length st) ti' ki' st'
+      → Timed (answersBy s b (tableOf s) (lookupsOf s) t (h .p)) (length ti) (length ki) (length st) ti' ki' st'
   timed {u} eu {w} ew {ti'} {ki'} {st'} q =
-      timed-is s b (tableOf s) (namesOf s) t (h .p) (length ti) (length ki) (length st) (omega (arith, long .times, events-are h)) (omega (arith, long .kinds, events-are h)) (omega (arith, long .steps, events-are h))
+      timed-is s b (tableOf s) (lookupsOf s) t (h .p) (length ti) (length ki) (length st) (omega (arith, long .times, events-are h)) (omega (arith, long .kinds, events-are h)) (omega (arith, long .steps, events-are h))
       (subst (λ (o : Filled). Answered o ti' ki' st')
       ((λ i. eventsIn (eu i) b k (ew i) c re (record { times = length ti; kinds = length ki; steps = length st; matrix = cells x }))
-      ∙ (events-in (worldBy s b (tableOf s) (namesOf s) t (h .p))
-      ∙ (λ i. filled (worldBy s b (tableOf s) (namesOf s) t (h .p)) (map (clockBy t (machineTable t)) (eventsAt b (at-is h i) (events-are h i))) (map (λ e. e .reading) (eventsAt b (at-is h i) (events-are h i))) wide)))
+      ∙ (events-in (worldBy s b (tableOf s) (lookupsOf s) t (h .p))
+      ∙ (λ i. filled (worldBy s b (tableOf s) (lookupsOf s) t (h .p)) (map (clockBy t (machineTable t)) (eventsAt b (at-is h i) (events-are h i))) (map (λ e. e .reading) (eventsAt b (at-is h i) (events-are h i))) wide)))
       q)
 
-  accepted-ended : {u : List ℕ} → u ≡ t → (a : List ℕ) (xs : List ℤ) (cs : List ℕ) (ys : List ℤ) → worldIn (k .given) a xs cs ys ≡ worldBy s b (tableOf s) (namesOf s) t (h .p)
+  accepted-ended : {u : List ℕ} → u ≡ t → (a : List ℕ) (xs : List ℤ) (cs : List ℕ) (ys : List ℤ) → worldIn (k .given) a xs cs ys ≡ worldBy s b (tableOf s) (lookupsOf s) t (h .p)
       → settledIn u b a xs cs ys c re room (Accepted k) ≡ merged s b room
   unfolding acceptedWith settledIn
   accepted-ended {u} eu a xs cs ys ew =
       let y : roomyFor (h .p .sources .count) (h .p .events .count) room ≡ true = (λ i. roomyFor (sym (sources-are h) i) (sym (events-are h) i) room) ∙ f .roomy in
-      let o : merged s b room ≡ acceptedWith s b (tableOf s) (namesOf s) t (h .p) room = accepted-is (h .tables) (h .none) room y in
+      let o : merged s b room ≡ acceptedWith s b (tableOf s) (lookupsOf s) t (h .p) room = accepted-is (h .tables) (h .none) room y in
       let d = timed eu ew (record { times-are = refl; kinds-are = refl; steps-are = refl }) in
       let e : machinesIn u (k .sources) (length m) ≡ machinesOf (factsBy t) = ap (λ (v : List ℕ). machinesIn v (k .sources) (length m)) eu ∙ machines-all in
       (λ i. record { answer = answer-is i; machines = padded 0 (length m) (e i); times = d .times-are i; kinds = d .kinds-are i; steps = d .steps-are i }) ∙ sym o

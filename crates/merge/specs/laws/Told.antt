@@ -8,7 +8,7 @@ use lib.ListN.{length, take, replicate, length-append, length-replicate}
 use Rattle.text.specs.Reading.{Text}
 use Rattle.sheet.specs.Sheets.{readOf}
 use Rattle.sheet.specs.declared.Table.{Table}
-use Rattle.reader.specs.Reader.{tableOf, namesOf}
+use Rattle.reader.specs.Reader.{tableOf, lookupsOf}
 use Rattle.meant.specs.Meant.{timelineOf}
 use Rattle.graphs.specs.Links.{Link}
 use Rattle.graphs.specs.Graphs.{worldOf}
@@ -53,7 +53,7 @@ apart e = let z : _≡_ {A = ℕ} 1 0 = ap kindIn e in omega arith
 pub held-length : {A : Type 0} (s : Text) (b : List ℕ) (f : Link → A) (z : A) {a : List A} → a ≡ padded z 288 (map f (linksIn s b)) → length a ≡ 288
 held-length s b f z e =
     let l = linksIn s b in
-    let n = links-few s (tableOf s) (namesOf s) (factTable s b) (machineTable (factTable s b)) b (tableIn (readOf b) .snapshots .at) (tableIn (readOf b) .snapshots .count) in
+    let n = links-few s (tableOf s) (lookupsOf s) (factTable s b) (machineTable (factTable s b)) b (tableIn (readOf b) .snapshots .at) (tableIn (readOf b) .snapshots .count) in
     let h = ap length e ∙ (length-append (map f l) (replicate (288 - length (map f l)) z) ∙ ap (λ (k : ℕ). length (map f l) + k) (length-replicate (288 - length (map f l)) z)) in
     omega (arith, length-map f l)
 
@@ -72,7 +72,7 @@ refused-so s b room =
 -- both are accepted, and what is known is that of their tables
 pub record Acceptance (s : Text) (b : List ℕ) (k : Known) : Type 0 where
   pub p : Table
-  pub tables : Read s b (tableOf s) (namesOf s) (factTable s b) p
+  pub tables : Read s b (tableOf s) (lookupsOf s) (factTable s b) p
   pub none : firstOf checks (factsBy (factTable s b)) ≡ 0
   pub known : k ≡ record { sources = p .sources .count; at = p .events .at; given = givenIn s b }
 
@@ -123,19 +123,19 @@ module _ {s : Text} {b : List ℕ} {k : Known} (h : Acceptance s b k) where
   unfolding givenBy
   pinned-is = ap (λ (q : Known). q .given .pinned) (h .known)
 
-  pub trace-is : k .given .trace .0 ≡ traceBy (factsBy t) (timelineOf s (tableOf s) (namesOf s))
+  pub trace-is : k .given .trace .0 ≡ traceBy (factsBy t) (timelineOf s (tableOf s) (lookupsOf s))
   unfolding givenBy
   trace-is = ap (λ (q : Known). q .given .trace .0) (h .known)
 
   -- the world of the lists is that of the tables
   pub world-is : (a : List ℕ) (x : List ℤ) (c : List ℕ) (y : List ℤ)
       → a ≡ padded 0 288 (map (λ l. l .a) (linksIn s b)) → x ≡ padded (pos 0) 288 (map (λ l. l .x) (linksIn s b)) → c ≡ padded 0 288 (map (λ l. l .b) (linksIn s b)) → y ≡ padded (pos 0) 288 (map (λ l. l .y) (linksIn s b))
-      → worldIn (k .given) a x c y ≡ worldBy s b (tableOf s) (namesOf s) t (h .p)
+      → worldIn (k .given) a x c y ≡ worldBy s b (tableOf s) (lookupsOf s) t (h .p)
   world-is a x c y ea ex ec ey =
       let d : k .given .links ≡ k .given .links - 0 = omega arith in
-      let l : linksIn s b ≡ linksBy s (tableOf s) (namesOf s) t (machineTable t) b (h .p .snapshots .at) (h .p .snapshots .count) = ap (λ (q : Table). linksBy s (tableOf s) (namesOf s) t (machineTable t) b (q .snapshots .at) (q .snapshots .count)) table-is in
+      let l : linksIn s b ≡ linksBy s (tableOf s) (lookupsOf s) t (machineTable t) b (h .p .snapshots .at) (h .p .snapshots .count) = ap (λ (q : Table). linksBy s (tableOf s) (lookupsOf s) t (machineTable t) b (q .snapshots .at) (q .snapshots .count)) table-is in
       (λ i. worldOf (take (d i) a) (take (d i) x) (take (d i) c) (take (d i) y) (k .given .machines) (k .given .files) (k .given .pinned) (k .given .trace .0))
-      ∙ world-made s b (tableOf s) (namesOf s) t (h .p) refl (k .given .links) a x c y (links-are ∙ ap length l)
+      ∙ world-made s b (tableOf s) (lookupsOf s) t (h .p) refl (k .given .links) a x c y (links-are ∙ ap length l)
       (ea ∙ ap (λ (m : List Link). padded 0 288 (map (λ l. l .a) m)) l)
       (ex ∙ ap (λ (m : List Link). padded (pos 0) 288 (map (λ l. l .x) m)) l)
       (ec ∙ ap (λ (m : List Link). padded 0 288 (map (λ l. l .b) m)) l)

@@ -39,7 +39,7 @@ add-t13 : tie.Need-add-t13
 add-t13 c = search needs
 
 returns-3 : tie.Need-returns-3
-returns-3 c = (added-new _ _ (c .before .before .before .before .before .before .before .before .pre .0) (c .before .before .before .before .before .before .before .before .pre .1) (c .before .before .before .before .before .before .if1 .left) (c .before .before .before .before .before .if2 .taken) (c .before .before .place-of .ensures .tells ∙ le-ltb _ _ (c .before .if3 .left)), printed-more _ _ (c .before .before .before .before .before .before .before .before .pre .0) (c .before .before .before .before .before .if2 .taken) (c .before .before .before .before .before .before .before .before .pre .2) (c .print-at .ensures))
+returns-3 c = (added-new _ _ (c .before .before .before .before .before .before .before .before .pre .0) (c .before .before .before .before .before .before .before .before .pre .1) (c .before .before .before .before .before .before .if1 .left) (c .before .before .before .before .before .if2 .taken) (c .before .before .place-of .ensures .tells ∙ le-ltb _ _ (c .before .if3 .left)), printed-more _ _ (c .before .before .before .before .before .before .before .before .pre .0) (c .before .before .before .before .before .if2 .taken) (c .before .before .before .before .before .before .if1 .left) (c .before .before .before .before .before .before .before .before .pre .2) (c .print-at .ensures))
 
 returns-4 : tie.Need-returns-4
 returns-4 c = (added-full _ _ (c .before .before .before .pre .0) (c .before .before .before .pre .1) (c .before .if1 .left) (c .if2 .left), c .before .before .before .pre .2)

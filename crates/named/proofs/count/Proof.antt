@@ -1,4 +1,4 @@
--- `named::count` meets its contract: the invariant is that the first 0, looked for from place k on, gives the count. The slice of the table tells that it has 32 numbers.
+-- `named::count` meets its contract: the invariant is that the first 0, looked for from place k on, gives the count. The slice of the table tells that it has 96 numbers.
 -- Assumes nothing.
 use mathlib.Core.Path.{_≡_}
 use Prim.Native.Nat.{_-_, _≤_}
@@ -11,13 +11,13 @@ use Rattle.named.proofs.count.Statement.{statement}
 use Rattle.named.proofs.count.Tie as tie
 
 abbrev Inv-loop : tie.InvT-loop
-Inv-loop names table k₀ k = (k ≤ 32) × (length names ≡ 32) × (countIn names ≡ countFrom names k)
+Inv-loop table held k₀ k = (k ≤ 32) × (length table ≡ 96) × (countIn table ≡ countFrom table k)
 
 abbrev μ-loop : tie.MeasureT-loop
-μ-loop names table k₀ k = 32 - k
+μ-loop table held k₀ k = 32 - k
 
 loop-holds : tie.Need-loop-holds Inv-loop μ-loop
-loop-holds c = (omega arith, c .table .given .0, count-start _ (c .table .given .0))
+loop-holds c = (omega arith, c .held .given .0, count-start _ (omega (arith, c .held .given .0)))
 
 mul-if1 : tie.Need-mul-if1 Inv-loop μ-loop
 mul-if1 c = search needs
@@ -26,7 +26,7 @@ shared-slice-read-if1 : tie.Need-shared-slice-read-if1 Inv-loop μ-loop
 shared-slice-read-if1 c = omega arith
 
 returns : tie.Need-returns Inv-loop μ-loop
-returns c = count-here (c .before .before .before .before .before .args .names .now) (c .before .before .before .loop .inv .1) _ (c .before .before .before .loop .inv .2) (c .before .before .loop-test .taken) (c .if1 .taken)
+returns c = count-here (c .before .before .before .before .before .args .table .now) (omega (arith, c .before .before .before .loop .inv .1)) _ (c .before .before .before .loop .inv .2) (c .before .before .loop-test .taken) (c .if1 .taken)
 
 add-k : tie.Need-add-k Inv-loop μ-loop
 add-k c = search needs
@@ -35,10 +35,10 @@ loop-less : tie.Need-loop-less Inv-loop μ-loop
 loop-less c = search needs
 
 loop-again : tie.Need-loop-again Inv-loop μ-loop
-loop-again c = (omega arith, c .before .before .before .loop .inv .1, count-on (c .before .before .before .before .before .args .names .now) (c .before .before .before .loop .inv .1) _ (c .before .before .before .loop .inv .2) (c .before .before .loop-test .taken) (c .if1 .left))
+loop-again c = (omega arith, c .before .before .before .loop .inv .1, count-on (c .before .before .before .before .before .args .table .now) (omega (arith, c .before .before .before .loop .inv .1)) _ (c .before .before .before .loop .inv .2) (c .before .before .loop-test .taken) (c .if1 .left))
 
 returns-2 : tie.Need-returns-2 Inv-loop μ-loop
-returns-2 c = count-past (c .before .before .before .args .names .now) (c .before .loop .inv .1) _ (c .before .loop .inv .2) (c .loop-test .left)
+returns-2 c = count-past (c .before .before .before .args .table .now) (omega (arith, c .before .loop .inv .1)) _ (c .before .loop .inv .2) (c .loop-test .left)
 
 pub count-spec : {M : Type 1} → statement M
 count-spec =

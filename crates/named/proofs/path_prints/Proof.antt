@@ -3,8 +3,9 @@ use Prim.Native.Nat.{_-_, _≤_}
 use native.Mathlib.Omega.{arith}
 use borrow.Author.Needs.{needs}
 use mathlib.Core.Path.{ap, _∙_}
-use Rattle.named.specs.laws.Prints.{printAt}
-use Rattle.named.specs.laws.Tables.{Tabled, pathPrint, pathPrints, tabled-none, tabled-more, tabled-all}
+use Rattle.named.specs.Prints.{printAt}
+use Rattle.named.specs.Prints.{pathPrint, pathPrints}
+use Rattle.named.specs.laws.Tables.{Tabled, tabled-none, tabled-more, tabled-all}
 use Rattle.named.proofs.path_prints.Statement.{statement}
 use Rattle.named.proofs.path_prints.Tie as tie
 

@@ -1,7 +1,7 @@
 -- `named::with_byte` meets its contract: no sum passes 32 bits. Assumes nothing.
 use mathlib.Core.Path.{refl}
 use borrow.Author.Needs.{needs}
-use Rattle.named.specs.laws.Prints.{step}
+use Rattle.named.specs.Prints.{step}
 use Rattle.named.proofs.with_byte.Statement.{statement}
 use Rattle.named.proofs.with_byte.Tie as tie
 

@@ -11,10 +11,13 @@ use borrow.Author.Tests.{eq-eqb, ne-eqb}
 use Rattle.text.specs.Reading.{Text}
 use Rattle.text.specs.laws.Readers.{pick-true, pick-false}
 use Rattle.json.specs.Tree.{same}
+use Rattle.json.specs.laws.Order.{same-refl}
 use Rattle.numbers.specs.declared.Machine.{Machine}
 use Rattle.manifest.specs.Rows.{any, firstOr}
-use Rattle.index.specs.Index.{textAt}
-use Rattle.named.specs.Named.{countIn, numberAt}
+use Rattle.index.specs.Index.{textAt, listed}
+use Rattle.index.specs.laws.Entries.{from, from-past, from-here}
+use Rattle.named.specs.Prints.{printAt}
+use Rattle.named.specs.Named.{countIn, isCalled, isNamed, numberAt}
 use Rattle.named.specs.laws.Texts.{known}
 
 module _ (d : ℕ) (p : ℕ → Bool) (names : List ℕ) (k i : ℕ) where
@@ -35,33 +38,35 @@ module _ (d : ℕ) (p : ℕ → Bool) (names : List ℕ) (k i : ℕ) where
 
 -- the first 0 is looked for from place k on
 unfoldable pub countFrom : List ℕ → ℕ → ℕ
-countFrom names k = firstOr 32 (λ q. eqb q 0) (drop k names) k
+countFrom table k = firstOr 32 (λ q. eqb q 0) (drop k (take 32 table)) k
 
-module _ (names : List ℕ) (long : length names ≡ 32) where
-  pub count-start : countIn names ≡ countFrom names 0
+module _ (table : List ℕ) (long : 32 ≤ length table) where
+  its-length : length (take 32 table) ≡ 32
+  its-length = length-take-le 32 table long
+
+  pub count-start : countIn table ≡ countFrom table 0
   unfolding countIn countFrom
   count-start = refl
 
-  module _ (k : ℕ) (so : countIn names ≡ countFrom names k) where
-    pub count-here : k < 32 → getD names k 0 ≡ 0 → k ≡ countIn names
-    unfolding countFrom
-    count-here h e = sym (so ∙ first-here 32 (λ q. eqb q 0) names k k (omega arith) (eq-eqb _ 0 e))
+  module _ (k : ℕ) (so : countIn table ≡ countFrom table k) where
+    at-place : k < 32 → getD (take 32 table) k 0 ≡ getD table k 0
+    at-place h = getD-take 32 table k 0 h
 
-    pub count-on : k < 32 → (getD names k 0 ≡ 0 → ⊥) → countIn names ≡ countFrom names (k + 1)
+    pub count-here : k < 32 → getD table k 0 ≡ 0 → k ≡ countIn table
+    unfolding countFrom
+    count-here h e = sym (so ∙ first-here 32 (λ q. eqb q 0) (take 32 table) k k (omega (arith, its-length)) (eq-eqb _ 0 (at-place h ∙ e)))
+
+    pub count-on : k < 32 → (getD table k 0 ≡ 0 → ⊥) → countIn table ≡ countFrom table (k + 1)
     unfolding countFrom
     count-on h e =
         let n : suc k ≡ k + 1 = omega arith in
-        so ∙ (first-on 32 (λ q. eqb q 0) names k k (omega arith) (ne-eqb _ 0 e) ∙ ap (countFrom names) n)
+        so ∙ (first-on 32 (λ q. eqb q 0) (take 32 table) k k (omega (arith, its-length)) (ne-eqb _ 0 (λ q. e (sym (at-place h) ∙ q))) ∙ ap (countFrom table) n)
 
-    pub count-past : 32 ≤ k → 32 ≡ countIn names
+    pub count-past : 32 ≤ k → 32 ≡ countIn table
     unfolding countFrom
-    count-past h = sym (so ∙ first-past 32 (λ q. eqb q 0) names k k (omega arith))
+    count-past h = sym (so ∙ first-past 32 (λ q. eqb q 0) (take 32 table) k k (omega (arith, its-length)))
 
 -- ---- the number of a machine
-
--- a name stands at q, and it is the text at p
-unfoldable pub isCalled : Text → ℕ → ℕ → Bool
-isCalled s p q = not (eqb q 0) && same (textAt s p) (textAt s q)
 
 module _ (s : Text) (p q : ℕ) where
   pub called-none : q ≡ 0 → false ≡ isCalled s p q
@@ -72,39 +77,54 @@ module _ (s : Text) (p q : ℕ) where
   unfolding isCalled
   called-some e = sym (ap (λ (b : Bool). not b && same (textAt s p) (textAt s q)) (ne-eqb q 0 e))
 
-module _ (s : Text) (names : List ℕ) (p : ℕ) where
+  -- the text at p itself
+  pub called-itself : (q ≡ 0 → ⊥) → q ≡ p → true ≡ isCalled s p q
+  called-itself n e = sym (ap (λ (x : ℕ). same (textAt s p) (textAt s x)) e ∙ same-refl (textAt s p)) ∙ called-some n
+
+module _ (s : Text) (table : List ℕ) (p : ℕ) where
+  module _ (k : ℕ) {print : ℕ} (its : print ≡ printAt s p) where
+    -- the prints differ; they do not, and the texts decide
+    pub named-other : (getD table (32 + k) 0 ≡ print → ⊥) → isNamed s table p k ≡ false
+    unfolding isNamed
+    named-other n = ap (λ (b : Bool). b && isCalled s p (getD table k 0)) (ne-eqb _ _ (λ e. n (e ∙ sym its)))
+
+    pub named-same : getD table (32 + k) 0 ≡ print → {b : Bool} → b ≡ isCalled s p (getD table k 0) → isNamed s table p k ≡ b
+    unfolding isNamed
+    named-same e f = ap (λ (b : Bool). b && isCalled s p (getD table k 0)) (eq-eqb _ _ (e ∙ its)) ∙ sym f
+
   -- the name at p is looked for from place k on
   unfoldable pub numberFrom : ℕ → ℕ
-  numberFrom k = firstOr 0 (isCalled s p) (drop k names) (k + 1)
+  numberFrom k = firstOr 0 (isNamed s table p) (from (λ j. j) 32 k) (k + 1)
 
   -- a result of the code, as a machine
   abbrev pub machine : ℕ → Machine
   machine n = record { 0 = n }
 
-  pub number-host : p ≡ 0 → machine 0 ≡ numberAt s names p
+  pub number-host : p ≡ 0 → machine 0 ≡ numberAt s table p
   unfolding numberAt
   number-host z = sym (ap machine (pick-true _ _ (eq-eqb p 0 z)))
 
-  pub number-start : (p ≡ 0 → ⊥) → numberAt s names p ≡ machine (numberFrom 0)
-  unfolding numberAt numberFrom isCalled
+  pub number-start : (p ≡ 0 → ⊥) → numberAt s table p ≡ machine (numberFrom 0)
+  unfolding numberAt numberFrom from
   number-start z = ap machine (pick-false _ _ (ne-eqb p 0 z))
 
-  module _ (long : length names ≡ 32) (k : ℕ) (so : numberAt s names p ≡ machine (numberFrom k)) where
-    pub number-here : k < 32 → isCalled s p (getD names k 0) ≡ true → machine (k + 1) ≡ numberAt s names p
-    unfolding numberFrom
-    number-here h e = sym (so ∙ ap machine (first-here 0 (isCalled s p) names k (k + 1) (omega arith) e))
+  module _ (k : ℕ) (so : numberAt s table p ≡ machine (numberFrom k)) where
+    pub number-here : k < 32 → isNamed s table p k ≡ true → machine (k + 1) ≡ numberAt s table p
+    unfolding numberFrom firstOr
+    number-here h e = sym (so ∙ ap machine (ap (λ (l : List ℕ). firstOr 0 (isNamed s table p) l (k + 1)) (from-here (λ j. j) 32 k h) ∙ pick-true _ _ e))
 
-    pub number-on : k < 32 → isCalled s p (getD names k 0) ≡ false → numberAt s names p ≡ machine (numberFrom (k + 1))
-    unfolding numberFrom
+    pub number-on : k < 32 → isNamed s table p k ≡ false → numberAt s table p ≡ machine (numberFrom (k + 1))
+    unfolding numberFrom firstOr
     number-on h e =
         let n : suc k ≡ k + 1 = omega arith in
         let m : suc (k + 1) ≡ k + 1 + 1 = omega arith in
-        so ∙ ap machine (first-on 0 (isCalled s p) names k (k + 1) (omega arith) e ∙ (λ t. firstOr 0 (isCalled s p) (drop (n t) names) (m t)))
+        so ∙ ap machine (ap (λ (l : List ℕ). firstOr 0 (isNamed s table p) l (k + 1)) (from-here (λ j. j) 32 k h) ∙ (pick-false _ _ e ∙ (λ t. firstOr 0 (isNamed s table p) (from (λ j. j) 32 (n t)) (m t))))
 
-    pub number-past : 32 ≤ k → machine 0 ≡ numberAt s names p
-    unfolding numberFrom
-    number-past h = sym (so ∙ ap machine (first-past 0 (isCalled s p) names k (k + 1) (omega arith)))
+    pub number-past : 32 ≤ k → machine 0 ≡ numberAt s table p
+    unfolding numberFrom firstOr
+    number-past h = sym (so ∙ ap machine (ap (λ (l : List ℕ). firstOr 0 (isNamed s table p) l (k + 1)) (from-past (λ j. j) 32 k h)))
 
+module _ (s : Text) (names : List ℕ) (p : ℕ) where
   -- ---- whether a name is there
 
   -- among the first n names, looked for from place k on

@@ -1,44 +1,70 @@
 -- The prints that are kept beside the names of a table, and the place of a name in it. Assumes nothing.
-use mathlib.Core.Path.{_≡_, sym, ap, _∙_}
+use mathlib.Core.Path.{_≡_, refl, sym, ap, _∙_}
 use mathlib.Core.Bool.{Bool, true, _||_, or-true}
-use mathlib.Core.List.{List, [], _∷_}
+use mathlib.Core.List.{List, [], _∷_, map}
 use Prim.Native.Nat.{ℕ, zero, suc, _+_, _≤_, _<_}
 use native.Mathlib.Omega.{arith}
-use native.Mathlib.Decide.{ℕ-discrete}
+use native.Mathlib.Decide.{ℕ-discrete, decLt}
 use lib.Dec.{ltb}
-use lib.ListN.{length, getD, take, set, length-set}
-use lib.Seq.{getD-set-same, getD-set-other, length-take-le, getD-take}
-use borrow.Author.Tests.{lt-ltb, le-ltb}
-use Rattle.text.specs.Reading.{Text, Out, done, bad, deep}
+use lib.ListN.{length, getD, take, set, replicate, length-set, length-map, length-replicate, List·getD-map}
+use lib.Seq.{getD-set-same, getD-set-other, length-take-le, getD-take, ext-getD}
+use borrow.Author.Tests.{eq-eqb, ne-eqb, lt-ltb, le-ltb}
+use Rattle.text.specs.Reading.{Text, Out, done, bad, deep, pick}
+use Rattle.text.specs.laws.Readers.{pick-true, pick-false}
 use Rattle.text.specs.Strings.{string}
 use Rattle.json.specs.Tree.{same}
 use Rattle.values.specs.Strings.{isText, bothText, sameTexts}
 use Rattle.manifest.specs.Rows.{any}
 use Rattle.index.specs.Index.{textIn, textAt}
+use Rattle.named.specs.Named.{namePrint}
 use Rattle.named.specs.laws.Texts.{known}
 use Rattle.named.specs.laws.Firsts.{knownFrom, known-past}
-use Rattle.named.specs.laws.Prints.{printAt}
+use Rattle.named.specs.Prints.{printAt}
 
--- beside each of the first n names stands its print
+-- beside each of the first n names stands its print; there are no others
 pub record Printed (s : Text) (names prints : List ℕ) (n : ℕ) : Type 0 where
   pub long : length prints ≡ 32
   pub each : (k : ℕ) → k < n → getD prints k 0 ≡ printAt s (getD names k 0)
+  pub some : (k : ℕ) → k < n → getD names k 0 ≡ 0 → ⊥
+  pub unnamed : (k : ℕ) → n ≤ k → getD names k 0 ≡ 0
+  pub unprinted : (k : ℕ) → n ≤ k → getD prints k 0 ≡ 0
 
 -- the text at p is the name at place r of the first n, or none of them and r is n
 pub record Place (s : Text) (p : ℕ) (names : List ℕ) (n r : ℕ) : Type 0 where
   pub few : r ≤ n
   pub tells : known s p (take n names) ≡ ltb r n
 
+zeros-at : (n k : ℕ) → _≡_ {A = ℕ} (getD (replicate n 0) k 0) 0
+zeros-at zero k = refl
+zeros-at (suc n) zero = refl
+zeros-at (suc n) (suc k) = zeros-at n k
+
 module _ (s : Text) where
   -- ---- prints
 
   -- of no names; of one more
-  pub printed-none : {names prints : List ℕ} → length prints ≡ 32 → Printed s names prints 0
-  printed-none e = record { long = e; each = λ k h. absurd (omega arith) }
+  pub printed-none : Printed s (replicate 32 0) (replicate 32 0) 0
+  printed-none = record {
+    long = length-replicate {A = ℕ} 32 0;
+    each = λ k h. absurd (omega arith);
+    some = λ k h. absurd (omega arith);
+    unnamed = λ k h. zeros-at 32 k;
+    unprinted = λ k h. zeros-at 32 k;
+  }
 
-  pub printed-more : (p : ℕ) {names prints : List ℕ} {n v : ℕ} → length names ≡ 32 → n < 32 → Printed s names prints n → v ≡ printAt s p → Printed s (set names n p) (set prints n v) (n + 1)
-  printed-more p {names} {prints} {n} {v} l h a e = record { long = length-set prints n v ∙ a .long; each = λ k b. go k b (ℕ-discrete k n) }
+  pub printed-more : (p : ℕ) {names prints : List ℕ} {n v : ℕ} → length names ≡ 32 → n < 32 → (p ≡ 0 → ⊥) → Printed s names prints n → v ≡ printAt s p → Printed s (set names n p) (set prints n v) (n + 1)
+  printed-more p {names} {prints} {n} {v} l h z a e = record {
+    long = length-set prints n v ∙ a .long;
+    each = λ k b. go k b (ℕ-discrete k n);
+    some = λ k b. named k b (ℕ-discrete k n);
+    unnamed = λ k b. getD-set-other names n k p 0 (λ (q : k ≡ n). omega arith) ∙ a .unnamed k (omega arith);
+    unprinted = λ k b. getD-set-other prints n k v 0 (λ (q : k ≡ n). omega arith) ∙ a .unprinted k (omega arith);
+  }
     where
+      named : (k : ℕ) → k < n + 1 → Dec (k ≡ n) → getD (set names n p) k 0 ≡ 0 → ⊥
+      named k b (yes q) w = z (sym (ap (λ (x : ℕ). getD (set names n p) x 0) q ∙ getD-set-same names n p 0 (omega arith)) ∙ w)
+      named k b (no q) w = a .some k (omega arith) (sym (getD-set-other names n k p 0 q) ∙ w)
+
       go : (k : ℕ) → k < n + 1 → Dec (k ≡ n) → getD (set prints n v) k 0 ≡ printAt s (getD (set names n p) k 0)
       go k b (yes q) =
           let m : n < length prints = omega (arith, a .long) in
@@ -48,6 +74,15 @@ module _ (s : Text) where
       go k b (no q) =
           let c : k < n = omega arith in
           getD-set-other prints n k v 0 q ∙ (a .each k c ∙ ap (printAt s) (sym (getD-set-other names n k p 0 q)))
+
+  -- when all names are in, the prints are those of the names
+  pub printed-all : {names prints : List ℕ} {n : ℕ} → length names ≡ 32 → Printed s names prints n → prints ≡ map (namePrint s) names
+  unfolding namePrint pick
+  printed-all {names} {prints} {n} l a = ext-getD 0 prints (map (namePrint s) names) (a .long ∙ sym (length-map names (namePrint s) ∙ l)) (λ k h. go k (decLt k n) ∙ sym (List·getD-map (namePrint s) names k 0))
+    where
+      go : (k : ℕ) → Dec (k < n) → getD prints k 0 ≡ namePrint s (getD names k 0)
+      go k (yes h) = a .each k h ∙ sym (pick-false 0 (printAt s (getD names k 0)) (ne-eqb _ 0 (a .some k h)))
+      go k (no h) = a .unprinted k (omega arith) ∙ sym (pick-true 0 (printAt s (getD names k 0)) (eq-eqb _ 0 (a .unnamed k (omega arith))))
 
   -- ---- places
 

@@ -2,12 +2,14 @@
 use mathlib.Core.Path.{_≡_, refl, sym, ap, _∙_}
 use mathlib.Core.Bool.{Bool, true, false, not, _||_, _&&_}
 use mathlib.Core.List.{List, [], _∷_, _++_, map, append-nil}
-use Prim.Native.Nat.{ℕ, zero, suc, _+_, _-_, _≤_, min}
+use Prim.Native.Nat.{ℕ, zero, suc, _+_, _-_, _≤_, _<_, min}
 use native.Mathlib.Omega.{arith}
 use lib.Dec.{eqb}
-use lib.ListN.{length, take, replicate, length-append, length-take, length-replicate, length-map}
-use lib.Seq.{take-all}
+use lib.ListN.{length, getD, take, replicate, length-append, length-take, length-replicate, length-map, List·getD-append, List·getD-map}
+use lib.Seq.{take-all, take-at}
+use borrow.Author.Tests.{eq-eqb}
 use Rattle.text.specs.Reading.{Text, pick}
+use Rattle.text.specs.laws.Readers.{pick-false}
 use Rattle.json.specs.Tree.{same}
 use Rattle.numbers.specs.declared.Machine.{Machine}
 use Rattle.manifest.specs.View.{absent, one}
@@ -18,8 +20,10 @@ use Rattle.manifest.specs.laws.Bools.{halves}
 use Rattle.manifest.specs.laws.Lists.{any-append}
 use Rattle.index.specs.Index.{textAt, colOf, itemOf, entriesIn, itemsIn, at, listed, itemBy, entryBy, entryAt, manifestOf, whoseAt}
 use Rattle.index.specs.laws.Entries.{from, entryCell, entries-are, itemAt, items-are}
-use Rattle.named.specs.Named.{place, declaredAt, declaredIn, withoutAt, distinctAt, namesIn, nameTable, countIn, numberAt}
+use Rattle.named.specs.Prints.{printAt}
+use Rattle.named.specs.Named.{place, declaredAt, declaredIn, withoutAt, distinctAt, namesIn, nameTable, namePrint, printTable, countIn, isCalled, isNamed, numberAt}
 use Rattle.named.specs.laws.Texts.{map-append, distinct-texts}
+use Rattle.named.specs.laws.Prints.{same-print}
 
 -- ---- the texts of the names that are declared
 
@@ -167,6 +171,39 @@ module _ (s : Text) (p : ℕ) where
       let (x, y) = halves (eqb q 0) (zero-in l) e in
       λ t. pick (not (x t) && same (textAt s p) (textAt s q)) i (first-named l n (suc i) y t)
 
+-- ---- a name's print beside it
+
+pub getD-behind : (l k : List ℕ) (i d : ℕ) → getD (l ++ k) (length l + i) d ≡ getD k i d
+getD-behind [] k i d = let e : 0 + i ≡ i = omega arith in ap (λ (j : ℕ). getD k j d) e
+getD-behind (q ∷ l) k i d = let e : suc (length l) + i ≡ suc (length l + i) = omega arith in ap (λ (j : ℕ). getD (q ∷ (l ++ k)) j d) e ∙ getD-behind l k i d
+
+and-false : (b : Bool) → (b && false) ≡ false
+and-false true = refl
+and-false false = refl
+
+-- a name that is the text at p has its print
+print-needless : (s : Text) (p q : ℕ) → (eqb (namePrint s q) (printAt s p) && isCalled s p q) ≡ isCalled s p q
+unfolding namePrint isCalled
+print-needless s p q = go (eqb q 0) refl (same (textAt s p) (textAt s q)) refl
+  where
+    alike : Bool
+    alike = eqb (pick (eqb q 0) 0 (printAt s q)) (printAt s p)
+
+    go : (b : Bool) → eqb q 0 ≡ b → (c : Bool) → same (textAt s p) (textAt s q) ≡ c → (alike && (not (eqb q 0) && same (textAt s p) (textAt s q))) ≡ (not (eqb q 0) && same (textAt s p) (textAt s q))
+    go true e c f = ap (λ (x : Bool). alike && (not x && same (textAt s p) (textAt s q))) e ∙ and-false alike ∙ sym (ap (λ (x : Bool). not x && same (textAt s p) (textAt s q)) e)
+    go false e true f = ap (λ (x : Bool). x && (not (eqb q 0) && same (textAt s p) (textAt s q))) (eq-eqb _ _ (pick-false 0 (printAt s q) e ∙ sym (same-print s p q f)))
+    go false e false f =
+        let none : (not (eqb q 0) && same (textAt s p) (textAt s q)) ≡ false = (λ t. not (e t) && f t) in
+        ap (λ (x : Bool). alike && x) none ∙ and-false alike ∙ sym none
+
+-- the first place of a list at which a test holds, by the places
+first-listed : (d : ℕ) (p q : ℕ → Bool) (l : List ℕ) (i k : ℕ) → ((j : ℕ) → j < length l → p (k + j) ≡ q (getD l j 0)) → firstOr d p (listed (λ j. j) k (length l)) i ≡ firstOr d q l i
+unfolding firstOr listed
+first-listed d p q [] i k h = refl
+first-listed d p q (x ∷ l) i k h =
+    let e : k ≡ k + 0 = omega arith in
+    λ t. pick ((ap p e ∙ h 0 (omega arith)) t) i (first-listed d p q l (suc i) (suc k) (λ j b. let g : suc k + j ≡ k + suc j = omega arith in ap p g ∙ h (suc j) (omega arith)) t)
+
 -- ---- the table
 
 module _ (s : Text) (ix : List ℕ) where
@@ -180,29 +217,56 @@ module _ (s : Text) (ix : List ℕ) where
       let a : length (replicate {A = ℕ} n 0) ≡ n = length-replicate {A = ℕ} n 0 in
       omega (arith, length-append (take 32 (namesIn s ix)) (replicate n 0), few, a)
 
-  pub table-count : countIn (nameTable s ix) ≡ min 32 (length (names-in (manifestOf s ix)))
+  -- behind the positions may stand anything
+  pub table-count : (rest : List ℕ) → countIn (nameTable s ix ++ rest) ≡ min 32 (length (names-in (manifestOf s ix)))
   unfolding nameTable countIn
-  table-count =
+  table-count rest =
       let l : List ℕ = take 32 (namesIn s ix) in
       let d : 32 ≡ 0 + length l + (32 - length l) = omega (arith, few) in
       let z : 0 + length l ≡ length l = omega arith in
-      ap (λ (k : ℕ). firstOr k (λ q. eqb q 0) (l ++ replicate (32 - length l) 0) 0) d
+      ap (λ (t : List ℕ). firstOr 32 (λ q. eqb q 0) t 0) (take-at (nameTable s ix) rest 32 table-long)
+      ∙ (ap (λ (k : ℕ). firstOr k (λ q. eqb q 0) (l ++ replicate (32 - length l) 0) 0) d
       ∙ (first-zero l 0 (32 - length l) (no-zero-take 32 (namesIn s ix) (no-zero-name s ix))
-      ∙ (z ∙ (length-take 32 (namesIn s ix) ∙ ap (min 32) (names-length s ix))))
+      ∙ (z ∙ (length-take 32 (namesIn s ix) ∙ ap (min 32) (names-length s ix)))))
 
-  pub table-number : (p : ℕ) → length (names-in (manifestOf s ix)) ≤ 32 → numberAt s (nameTable s ix) p ≡ numberOf (names-in (manifestOf s ix)) (whoseAt s p)
-  unfolding nameTable numberAt numberOf whoseAt pick
-  table-number p h = go (eqb p 0)
+  -- ---- the number of a machine
+
+  -- by the texts alone
+  by-texts : (p : ℕ) → length (names-in (manifestOf s ix)) ≤ 32 → firstOr 0 (isCalled s p) (nameTable s ix) 1 ≡ firstOr 0 (same (textAt s p)) (names-in (manifestOf s ix)) 1
+  unfolding nameTable isCalled
+  by-texts p h =
+      let all : take 32 (namesIn s ix) ≡ namesIn s ix = take-all 32 (namesIn s ix) (omega (arith, names-length s ix)) in
+      first-named s p (take 32 (namesIn s ix)) (32 - length (take 32 (namesIn s ix))) 1 (no-zero-take 32 (namesIn s ix) (no-zero-name s ix))
+      ∙ (ap (λ (l : List ℕ). firstOr 0 (same (textAt s p)) (map (textAt s) l) 1) all
+      ∙ ap (λ (l : List Text). firstOr 0 (same (textAt s p)) l 1) (names-texts s ix))
+
+  -- the prints change nothing
+  print-at-place : (rest : List ℕ) (k : ℕ) → k < 32 → getD (nameTable s ix ++ (printTable s ix ++ rest)) (32 + k) 0 ≡ namePrint s (getD (nameTable s ix) k 0)
+  unfolding printTable namePrint pick
+  print-at-place rest k h =
+      let n : length (printTable s ix) ≡ 32 = length-map (nameTable s ix) (namePrint s) ∙ table-long in
+      ap (λ (m : ℕ). getD (nameTable s ix ++ (printTable s ix ++ rest)) (m + k) 0) (sym table-long)
+      ∙ (getD-behind (nameTable s ix) (printTable s ix ++ rest) k 0
+      ∙ (List·getD-append (printTable s ix) rest 0 k (omega arith)
+      ∙ List·getD-map (namePrint s) (nameTable s ix) k 0))
+
+  named-called : (rest : List ℕ) (p k : ℕ) → k < 32 → isNamed s (nameTable s ix ++ (printTable s ix ++ rest)) p k ≡ isCalled s p (getD (nameTable s ix) k 0)
+  unfolding isNamed
+  named-called rest p k h =
+      (λ t. eqb (print-at-place rest k h t) (printAt s p) && isCalled s p (List·getD-append (nameTable s ix) (printTable s ix ++ rest) 0 k (omega (arith, table-long)) t))
+      ∙ print-needless s p (getD (nameTable s ix) k 0)
+
+  pub table-number : (rest : List ℕ) (p : ℕ) → length (names-in (manifestOf s ix)) ≤ 32
+      → numberAt s (nameTable s ix ++ (printTable s ix ++ rest)) p ≡ numberOf (names-in (manifestOf s ix)) (whoseAt s p)
+  unfolding numberAt numberOf whoseAt pick
+  table-number rest p h = go (eqb p 0)
     where
-      all : take 32 (namesIn s ix) ≡ namesIn s ix
-      all = take-all 32 (namesIn s ix) (omega (arith, names-length s ix))
-
-      found : firstOr 0 (λ q. not (eqb q 0) && same (textAt s p) (textAt s q)) (take 32 (namesIn s ix) ++ replicate (32 - length (take 32 (namesIn s ix))) 0) 1 ≡ firstOr 0 (same (textAt s p)) (names-in (manifestOf s ix)) 1
+      found : firstOr 0 (isNamed s (nameTable s ix ++ (printTable s ix ++ rest)) p) (listed (λ k. k) 0 32) 1 ≡ firstOr 0 (same (textAt s p)) (names-in (manifestOf s ix)) 1
       found =
-          first-named s p (take 32 (namesIn s ix)) (32 - length (take 32 (namesIn s ix))) 1 (no-zero-take 32 (namesIn s ix) (no-zero-name s ix))
-          ∙ (ap (λ (l : List ℕ). firstOr 0 (same (textAt s p)) (map (textAt s) l) 1) all
-          ∙ ap (λ (l : List Text). firstOr 0 (same (textAt s p)) l 1) (names-texts s ix))
+          ap (λ (n : ℕ). firstOr 0 (isNamed s (nameTable s ix ++ (printTable s ix ++ rest)) p) (listed (λ k. k) 0 n) 1) (sym table-long)
+          ∙ (first-listed 0 (isNamed s (nameTable s ix ++ (printTable s ix ++ rest)) p) (isCalled s p) (nameTable s ix) 1 0 (λ j l. let z : 0 + j ≡ j = omega arith in ap (isNamed s (nameTable s ix ++ (printTable s ix ++ rest)) p) z ∙ named-called rest p j (omega (arith, table-long)))
+          ∙ by-texts p h)
 
-      go : (b : Bool) → _≡_ {A = Machine} (record { 0 = pick b 0 (firstOr 0 (λ q. not (eqb q 0) && same (textAt s p) (textAt s q)) (take 32 (namesIn s ix) ++ replicate (32 - length (take 32 (namesIn s ix))) 0) 1) }) (numberOf (names-in (manifestOf s ix)) (pick b host (called (textAt s p))))
+      go : (b : Bool) → _≡_ {A = Machine} (record { 0 = pick b 0 (firstOr 0 (isNamed s (nameTable s ix ++ (printTable s ix ++ rest)) p) (listed (λ k. k) 0 32) 1) }) (numberOf (names-in (manifestOf s ix)) (pick b host (called (textAt s p))))
       go true = refl
       go false = λ t. record { 0 = found t }

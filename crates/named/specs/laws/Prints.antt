@@ -1,38 +1,29 @@
--- The print of a text: a number that is computed byte by byte. Equal texts have equal prints, and the empty text alone has 0. Assumes nothing.
+-- Prints: equal texts have equal ones, the empty text alone has 0, and how a walk over a string computes one. Assumes nothing.
 use mathlib.Core.Path.{_≡_, refl, sym, ap, _∙_}
 use mathlib.Core.Bool.{Bool, true, false}
 use mathlib.Core.List.{[], _∷_, _++_}
-use Prim.Native.Nat.{ℕ, suc, _+_, _*_, _/_, _%_, _≤_, _<_}
+use Prim.Native.Nat.{ℕ, suc, _+_, _-_, _*_, _/_, _%_, _≤_, _<_}
 use native.Mathlib.Omega.{arith}
 use native.Mathlib.Decide.{decLt, ℕ-discrete}
 use lib.Dec.{eqb}
-use lib.ListN.{length}
+use lib.ListN.{length, getD, take, drop}
+use lib.Seq.{drop-cons, take-all}
 use borrow.Author.Tests.{eq-eqb, ne-eqb, lt-ltb, le-ltb}
-use Rattle.text.specs.Reading.{Text, Out, done, bad, deep, next, peek}
+use Rattle.text.specs.Reading.{Text, Out, done, bad, deep, next, peek, part}
 use Rattle.text.specs.Strings.{character, utf8, before, onward, characters, string, codeOf}
+use Rattle.text.specs.Raw.{pastRaw}
 use Rattle.text.specs.declared.Code.{Code}
 use Rattle.text.specs.declared.Code.the-variants.{Of, No}
-use Rattle.text.specs.laws.Readers.{pick-true, pick-false, bad-done, next-was, past-strict}
-use Rattle.text.specs.laws.Strings.{character-end, character-past, characters-turns, characters-close, characters-open, string-none, string-some}
+use Rattle.text.specs.laws.Readers.{pick-true, pick-false, bad-done, next-was, past-strict, at-done-le}
+use Rattle.text.specs.laws.Strings.{character-end, character-past, character-bounded, characters-turns, characters-close, characters-open, string-none, string-some}
+use Rattle.text.specs.laws.Raw.{prefixed, raw-reads}
 use Rattle.json.specs.Tree.{same}
 use Rattle.json.specs.laws.Order.{same-true}
 use Rattle.values.specs.Strings.{sameTexts}
 use Rattle.values.specs.laws.Outs.{Stops, stops-next, stops-is}
-use Rattle.values.specs.laws.Ordinary.{Ordinary, reads-itself}
 use Rattle.index.specs.Index.{textIn, textAt}
+use Rattle.named.specs.Prints.{step, printFrom, printAt}
 use Rattle.named.specs.laws.Empty.{string-is}
-
--- one byte more. (No sum passes 32 bits, and none is 0)
-unfoldable pub step : ℕ → ℕ → ℕ
-step print b = print % 16777216 * 31 + b + 1
-
-unfoldable pub printFrom : ℕ → Text → ℕ
-printFrom print [] = print
-printFrom print (b ∷ t) = printFrom (step print b) t
-
--- the print of the text at p
-unfoldable pub printAt : Text → ℕ → ℕ
-printAt s p = printFrom 0 (textAt s p)
 
 print-append : (print : ℕ) (t u : Text) → printFrom print (t ++ u) ≡ printFrom (printFrom print t) u
 unfolding printFrom
@@ -46,7 +37,7 @@ print-some print (b ∷ t) h = print-some (step print b) t (omega arith)
 
 -- ---- texts with one print
 
-print-empty : (t : Text) → printFrom 0 t ≡ 0 → t ≡ []
+pub print-empty : (t : Text) → printFrom 0 t ≡ 0 → t ≡ []
 unfolding printFrom step
 print-empty [] h = refl
 print-empty (b ∷ t) h = let w : 1 ≤ printFrom (step 0 b) t = print-some (step 0 b) t (omega arith) in absurd (omega arith)
@@ -55,6 +46,11 @@ print-none : (t : Text) → length t ≡ 0 → printFrom 0 t ≡ 0
 unfolding printFrom
 print-none [] h = refl
 print-none (b ∷ t) h = absurd (omega arith)
+
+-- equal texts have equal prints
+pub same-print : (s : Text) (p q : ℕ) → same (textAt s p) (textAt s q) ≡ true → printAt s p ≡ printAt s q
+unfolding printAt
+same-print s p q h = ap (printFrom 0) (same-true _ _ h)
 
 module _ (s : Text) (p q : ℕ) {print : ℕ} (its : print ≡ printAt s p) where
   -- they are not the same where their prints differ
@@ -111,6 +107,25 @@ module _ (print v : ℕ) where
           er ∙ ap (λ (x : ℕ). step x (128 + v % 64)) (ed ∙ ap (λ (x : ℕ). step x (128 + v / 64 % 64)) (eb ∙ ap (λ (x : ℕ). step x (128 + v / 4096 % 64)) ea))
           ∙ sym (ap (printFrom print) (pick-false _ _ (le-ltb v 128 h) ∙ pick-false _ _ (le-ltb v 2048 g) ∙ pick-false _ _ (le-ltb v 65536 l)))
 
+-- ---- the print of bytes in a row
+
+-- one byte of them; when none is left; and all of a text
+module _ (s : Text) (print i : ℕ) {end : ℕ} where
+  pub bytes-more : {w : ℕ} → i < end → end ≤ length s → w ≡ step print (getD s i 0) → printFrom w (part s (i + 1) end) ≡ printFrom print (part s i end)
+  unfolding printFrom part
+  bytes-more {w} h l e =
+      let n : end - i ≡ suc (end - (i + 1)) = omega arith in
+      let m : i + 1 ≡ suc i = omega arith in
+      rw (n, m, drop-cons s i 0 (omega arith), e)
+
+  pub bytes-none : end ≤ i → print ≡ printFrom print (part s i end)
+  unfolding printFrom part
+  bytes-none h = let n : end - i ≡ 0 = omega arith in ap (λ (k : ℕ). printFrom print (take k (drop i s))) (sym n)
+
+pub bytes-all : (t : Text) {r : ℕ} → r ≡ printFrom 0 (part t 0 (length t)) → r ≡ printFrom 0 t
+unfolding part
+bytes-all t e = e ∙ ap (printFrom 0) (take-all (length t - 0) t (omega arith))
+
 -- ---- the walk over a string
 
 -- what is left of a string from i on
@@ -145,7 +160,13 @@ print-next print v (done t j) = print-append print (utf8 v) t
 print-next print v (bad p) = refl
 print-next print v (deep p) = refl
 
--- a character that was read stands in the text, and ends past its start
+print-prefixed : (print : ℕ) (u : Text) (o : Out Text) → printIn print (next o (prefixed u)) ≡ printIn (printFrom print u) o
+unfolding printIn next prefixed
+print-prefixed print u (done t j) = print-append print u t
+print-prefixed print u (bad p) = refl
+print-prefixed print u (deep p) = refl
+
+-- a character that was read stands in the text, and ends past its start, in the text
 pub character-in : (s : Text) {i v j : ℕ} → character s i ≡ done v j → i < length s
 character-in s {i} {v} {j} e = go (decLt i (length s))
   where
@@ -155,6 +176,9 @@ character-in s {i} {v} {j} e = go (decLt i (length s))
 
 pub goes-on : (s : Text) {i v j : ℕ} → character s i ≡ done v j → i < j
 goes-on s {i} e = past-strict (character-past s i) e
+
+pub ends-in : (s : Text) (i : ℕ) {v j : ℕ} → character s i ≡ done v j → j ≤ length s
+ends-in s i e = let l : i < length s = character-in s e in at-done-le (character-bounded s i (omega arith)) e
 
 module _ (s : Text) (p : ℕ) where
   pub print-bad : (peek s p ≡ 34 → ⊥) → 0 ≡ printAt s p
@@ -186,9 +210,10 @@ module _ (s : Text) (print i : ℕ) {r : ℕ} (inv : printRest print s i ≡ r) 
         let t : rest s i ≡ next (rest s j) (before v) = opens ∙ next-was _ e ∙ ap (λ (o : Out Text). next o (before v)) (characters-turns s (length s) (suc (length s)) j (omega arith) (omega arith)) in
         ap (λ (k : ℕ). printIn k (rest s j)) f ∙ sym (print-next print v (rest s j)) ∙ ap (printIn print) (sym t) ∙ inv
 
-  -- a byte that is a character by itself
-  pub print-plain : {b w : ℕ} → b ≡ peek s i → (b ≡ 34 → ⊥) → Ordinary b → i < length s → w ≡ step print b → printRest w s (i + 1) ≡ r
-  print-plain {b} e n o l f = print-more (λ q. n (e ∙ q)) (reads-itself s i e o n) l (f ∙ print-byte print b (omega (arith, o .high)))
+  -- the bytes that stand for themselves
+  pub print-raw : {k w : ℕ} → k ≡ pastRaw s i → w ≡ printFrom print (part s i k) → printRest w s k ≡ r
+  unfolding printRest rest
+  print-raw {k} {w} e f = ap (λ (n : ℕ). printIn n (rest s k)) f ∙ sym (print-prefixed print (part s i k) (rest s k)) ∙ ap (printIn print) (sym (raw-reads s i e)) ∙ inv
 
 -- ---- what the code read of a character
 

@@ -9,7 +9,7 @@ use lib.Seq.{getD-set-same, getD-set-other, ext-getD}
 use Rattle.text.specs.Reading.{Text}
 use Rattle.index.specs.Index.{colOf, listed}
 use Rattle.index.specs.laws.Entries.{listed-length}
-use Rattle.named.specs.laws.Prints.{printAt}
+use Rattle.named.specs.Prints.{printAt, pathPrint, pathPrints}
 
 -- f 0, f 1, .. are the first n numbers of a table
 pub record Tabled (f : ℕ → ℕ) (table : List ℕ) (n : ℕ) : Type 0 where
@@ -49,14 +49,6 @@ module _ (f : ℕ → ℕ) where
   tabled-all {table} {n} h a = ext-getD 0 table (listed f 0 32) (a .long ∙ sym (listed-length f 0 32)) (λ j b. let l : j < 32 = omega (arith, a .long) in a .each j (omega arith) ∙ sym (table-at j l))
 
 -- ---- the prints of the paths
-
--- the print of the path of entry i
-abbrev pub pathPrint : Text → List ℕ → ℕ → ℕ
-pathPrint s ix i = printAt s (colOf ix i 0)
-
--- of entries 0 to 31
-unfoldable pub pathPrints : Text → List ℕ → List ℕ
-pathPrints s ix = listed (pathPrint s ix) 0 32
 
 pub print-of : (s : Text) (ix : List ℕ) {prints : List ℕ} → prints ≡ pathPrints s ix → (i : ℕ) → i < 32 → getD prints i 0 ≡ printAt s (colOf ix i 0)
 unfolding pathPrints

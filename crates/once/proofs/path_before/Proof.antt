@@ -5,7 +5,7 @@ use mathlib.Core.Path.{_≡_, refl, sym, ap, _∙_}
 use Prim.Native.Nat.{_-_}
 use native.Mathlib.Omega.{arith}
 use borrow.Author.Needs.{needs}
-use Rattle.named.specs.laws.Prints.{printAt}
+use Rattle.named.specs.Prints.{printAt}
 use Rattle.named.specs.laws.Tables.{print-of}
 use Rattle.index.specs.laws.Entries.{from, entryCell}
 use Rattle.index.specs.Index.{textAt}

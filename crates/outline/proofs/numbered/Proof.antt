@@ -1,18 +1,32 @@
--- `outline::numbered` meets its contract. The loop's invariant: the names from the k-th on decide. Each name stands between two bounds of the table. Assumes nothing.
-use mathlib.Core.Path.{refl, ap}
+-- `outline::numbered` meets its contract. The loop's invariant: the names from the k-th on decide. Each name stands between two bounds of the table. Where no
+-- quote stands there is no string, so none of them. Assumes nothing.
+use mathlib.Core.Path.{refl, ap, _∙_}
 use Prim.Native.Nat.{_-_}
 use native.Mathlib.Omega.{arith}
 use lib.ListN.{length}
 use borrow.Author.Needs.{needs}
-use Rattle.outline.proofs.Clocks.{Left, rise, left-start, left-end, left-hit, left-on}
+use Rattle.text.specs.laws.Peek.{found-lt}
+use Rattle.outline.proofs.Clocks.{Left, rise, some-byte, no-clock, left-start, left-end, left-hit, left-on}
 use Rattle.outline.proofs.numbered.Statement.{statement}
 use Rattle.outline.proofs.numbered.Tie as tie
 
 abbrev Inv-loop : tie.InvT-loop
-Inv-loop s at names k₀ number₀ k number = Left s at k number
+Inv-loop s at names first k₀ number₀ k number = Left s at k number
 
 abbrev μ-loop : tie.MeasureT-loop
-μ-loop s at names k₀ number₀ k number = 6 - k
+μ-loop s at names first k₀ number₀ k number = 6 - k
+
+byte-requires : tie.Need-byte-requires Inv-loop μ-loop
+byte-requires c κs = search needs
+
+returns : tie.Need-returns Inv-loop μ-loop
+returns c = no-clock (c .before .before .before .before .args .s .now) (c .before .before .before .before .args .at) (λ e. c .if1 .taken (c .before .byte .ensures ∙ e))
+
+add-byte : tie.Need-add-byte Inv-loop μ-loop
+add-byte c = omega (arith, found-lt (c .before .before .before .before .args .s .now) (c .before .before .before .before .args .at) (c .before .byte .ensures) (c .if1 .left) (omega arith))
+
+byte-requires-2 : tie.Need-byte-requires-2 Inv-loop μ-loop
+byte-requires-2 c κs = search needs
 
 loop-holds : tie.Need-loop-holds Inv-loop μ-loop
 loop-holds c = left-start _ _
@@ -32,20 +46,20 @@ mul-end c = search needs
 array-read-end : tie.Need-array-read-end Inv-loop μ-loop
 array-read-end c = search needs
 
-sub-same-as : tie.Need-sub-same-as Inv-loop μ-loop
-sub-same-as c = omega (arith, rise (c .before .loop .k) (c .loop-test .taken) .0)
+sub-is-named : tie.Need-sub-is-named Inv-loop μ-loop
+sub-is-named c = omega (arith, rise (c .before .loop .k) (c .loop-test .taken) .0)
 
-part-same-as-start : tie.Need-part-same-as-start Inv-loop μ-loop
-part-same-as-start c = omega (arith, rise (c .before .loop .k) (c .loop-test .taken) .0)
+part-is-named-start : tie.Need-part-is-named-start Inv-loop μ-loop
+part-is-named-start c = omega (arith, rise (c .before .loop .k) (c .loop-test .taken) .0)
 
-part-same-as-end : tie.Need-part-same-as-end Inv-loop μ-loop
-part-same-as-end c = omega (arith, rise (c .before .loop .k) (c .loop-test .taken) .1, ap length (c .before .before .before .before .pre))
+part-is-named-end : tie.Need-part-is-named-end Inv-loop μ-loop
+part-is-named-end c = omega (arith, rise (c .before .loop .k) (c .loop-test .taken) .1, ap length (c .before .before .before .before .before .before .before .pre))
 
-same-as-requires : tie.Need-same-as-requires Inv-loop μ-loop
-same-as-requires c κs = search needs
+is-named-requires : tie.Need-is-named-requires Inv-loop μ-loop
+is-named-requires c κs = (c .before .before .before .byte2 .ensures, some-byte (c .before .before .loop .k) (c .before .loop-test .taken) refl refl (c .before .before .before .before .before .before .before .before .pre))
 
-returns : tie.Need-returns Inv-loop μ-loop
-returns c = left-hit _ _ _ _ (c .before .before .before .before .loop .inv) (c .before .before .before .loop-test .taken) refl refl (c .before .before .before .before .before .before .before .pre) (c .before .same-as .ensures) (c .if1 .taken)
+returns-2 : tie.Need-returns-2 Inv-loop μ-loop
+returns-2 c = left-hit _ _ _ _ (c .before .before .before .before .loop .inv) (c .before .before .before .loop-test .taken) refl refl (c .before .before .before .before .before .before .before .before .before .before .pre) (c .before .is-named .ensures) (c .if2 .taken)
 
 add-k : tie.Need-add-k Inv-loop μ-loop
 add-k c = search needs
@@ -57,10 +71,10 @@ loop-less : tie.Need-loop-less Inv-loop μ-loop
 loop-less c = search needs
 
 loop-again : tie.Need-loop-again Inv-loop μ-loop
-loop-again c = left-on _ _ _ _ (c .before .before .before .before .loop .inv) (c .before .before .before .loop-test .taken) refl refl (c .before .before .before .before .before .before .before .pre) (c .before .same-as .ensures) (c .if1 .left)
+loop-again c = left-on _ _ _ _ (c .before .before .before .before .loop .inv) (c .before .before .before .loop-test .taken) refl refl (c .before .before .before .before .before .before .before .before .before .before .pre) (c .before .is-named .ensures) (c .if2 .left)
 
-returns-2 : tie.Need-returns-2 Inv-loop μ-loop
-returns-2 c = left-end _ _ _ _ (c .before .loop .inv) (c .loop-test .left)
+returns-3 : tie.Need-returns-3 Inv-loop μ-loop
+returns-3 c = left-end _ _ _ _ (c .before .loop .inv) (c .loop-test .left)
 
 pub numbered-spec : {M : Type 1} → statement M
 numbered-spec =
@@ -68,19 +82,23 @@ numbered-spec =
     (tie.spec
     Inv-loop
     μ-loop
+    byte-requires
+    returns
+    add-byte
+    byte-requires-2
     loop-holds
     mul-from
     array-read-from
     add-end
     mul-end
     array-read-end
-    sub-same-as
-    part-same-as-start
-    part-same-as-end
-    same-as-requires
-    returns
+    sub-is-named
+    part-is-named-start
+    part-is-named-end
+    is-named-requires
+    returns-2
     add-k
     add-number
     loop-less
     loop-again
-    returns-2)
+    returns-3)

@@ -11,7 +11,6 @@ use Rattle.members.specs.Members.{member-rules}
 use Rattle.sizes.specs.Sizes.{sizes-rules}
 use Rattle.once.specs.Once.{once-rules}
 use Rattle.cited.specs.Cited.{cited-rules}
-use Rattle.itself.specs.Itself.{itself-rules}
 
 -- 6 and 7
 abbrev pub version-rules : List Rule
@@ -19,7 +18,7 @@ version-rules = refusal-6-no-version ∷ refusal-7-version-not-1 ∷ []
 
 -- 10 to 24, which are judged over the index
 abbrev pub later-rules : List Rule
-later-rules = sizes-rules ++ (once-rules ++ (cited-rules ++ itself-rules))
+later-rules = sizes-rules ++ (once-rules ++ cited-rules)
 
 -- all of them, in their order
 pub in-parts : rules ≡ version-rules ++ (member-rules ++ later-rules)
@@ -50,7 +49,3 @@ sizes-numbered = refl
 pub once-numbered : numbered once-rules ≡ true
 unfolding numbered some-number refusal-14-id-out-of-range refusal-15-path-or-id-twice refusal-16-clocks-without-sync-to refusal-17-machine-without-file refusal-18-sync-to-without-file
 once-numbered = refl
-
-pub cited-numbered : numbered cited-rules ≡ true
-unfolding numbered some-number refusal-19-file-names-no-entry refusal-20-no-machine-of-a-split-file refusal-21-machine-not-declared refusal-22-offset-not-an-integer refusal-23-offset-out-of-range
-cited-numbered = refl

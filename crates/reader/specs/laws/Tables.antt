@@ -1,6 +1,6 @@
 -- The tables of a refused manifest, of an accepted one, and of none. Assumes nothing.
 use mathlib.Core.Path.{_≡_, refl, sym, ap, _∙_}
-use mathlib.Core.List.{List, [], _∷_}
+use mathlib.Core.List.{List, [], _∷_, _++_, map}
 use Prim.Native.Nat.{ℕ}
 use native.Mathlib.Omega.{arith}
 use lib.ListN.{length, replicate}
@@ -13,10 +13,11 @@ use Rattle.manifest.specs.Rows.{flat}
 use Rattle.manifest.specs.Manifest.{refusalOf}
 use Rattle.outline.specs.declared.Standing.the-variants.{At, Refused}
 use Rattle.outline.specs.Outline.{rootFrom, rootAt}
-use Rattle.index.specs.Index.{indexOf, entriesIn, listed}
+use Rattle.index.specs.Index.{indexOf, colOf, entriesIn, listed}
 use Rattle.survey.specs.Survey.{indexFrom}
-use Rattle.reader.specs.Reader.{tableOf, namesOf}
-use Rattle.named.specs.Named.{declaredIn, distinctAt, namesIn, nameTable}
+use Rattle.reader.specs.Reader.{tableOf, lookupsOf}
+use Rattle.named.specs.Named.{declaredIn, distinctAt, namesIn, nameTable, namePrint, printTable}
+use Rattle.finds.specs.Finds.{citedBy, citesOf, fromOne, lookups}
 
 abbrev pub zeros : List ℕ
 zeros = replicate 2470 0
@@ -45,11 +46,23 @@ unfolding tableOf indexFrom
 none-zeros [] e = pick-true _ _ (eq-eqb (refusalOf []) 0 (none-accepted [] e)) ∙ ap (indexFrom []) none-rooted
 none-zeros (b ∷ s) e = absurd (omega arith)
 
--- zeros name no machine
+-- zeros name no machine, and cite no entry
 zeros-unnamed : (s : Text) → nameTable s zeros ≡ replicate 32 0
 unfolding nameTable namesIn declaredIn distinctAt entriesIn listed flat pick
 zeros-unnamed s = refl
 
-pub zeros-names : (s : Text) → tableOf s ≡ zeros → namesOf s ≡ replicate 32 0
-unfolding namesOf
-zeros-names s e = ap (nameTable s) e ∙ zeros-unnamed s
+zeros-unprinted : (s : Text) → printTable s zeros ≡ replicate 32 0
+unfolding printTable namePrint pick
+zeros-unprinted s = ap (map (namePrint s)) (zeros-unnamed s)
+
+pub zeros-cite : (s : Text) → citesOf s zeros ≡ replicate 32 32
+unfolding citesOf citedBy colOf listed pick
+zeros-cite s = refl
+
+zeros-cited : (s : Text) → map fromOne (citesOf s zeros) ≡ replicate 32 0
+unfolding fromOne pick
+zeros-cited s = ap (map fromOne) (zeros-cite s)
+
+pub zeros-lookups : (s : Text) → tableOf s ≡ zeros → lookupsOf s ≡ replicate 96 0
+unfolding lookupsOf lookups
+zeros-lookups s e = ap (lookups s) e ∙ (λ t. zeros-unnamed s t ++ (zeros-unprinted s t ++ zeros-cited s t))

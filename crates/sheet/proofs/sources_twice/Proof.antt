@@ -1,43 +1,62 @@
--- `sources_twice` looks for each source among the later ones. The invariant says that the rest repeats itself exactly if all does. Assumes nothing.
-use Rattle.sheet.proofs.Again.{repeats-hit, repeats-miss, repeats-none, sources-step, sources-none}
+-- `sources_twice` looks for each source's key among the later ones. The invariant says that the sources from one on repeat themselves exactly if all do.
+-- Assumes nothing.
+use Rattle.sheet.proofs.Again.{repeats-hit, repeats-miss, repeats-none}
+use Rattle.sheet.proofs.Keying.{sources-start, sources-on, sources-past, found-later}
 use Rattle.sheet.specs.Places.{sourcesFrom}
 use Rattle.sheet.specs.Twice.{repeats, sameSource}
-use Prim.Native.Nat.{_+_, _-_, _*_, _<_, _≤_}
-use native.Mathlib.Omega.{arith}
-use mathlib.Core.Path.{_≡_, refl, sym, _∙_}
+use Prim.Native.Nat.{_+_, _-_, _*_}
+use mathlib.Core.Path.{_≡_, sym, ap, _∙_}
 use borrow.Author.Needs.{needs}
 use Rattle.sheet.proofs.sources_twice.Statement.{statement}
 use Rattle.sheet.proofs.sources_twice.Tie as tie
 
 abbrev Inv-loop : tie.InvT-loop
-Inv-loop s from n p₀ left₀ p left = (left ≤ 32) × (p + 40 * left < 0x1000000000) × (repeats sameSource (sourcesFrom s p left) ≡ repeats sameSource (sourcesFrom s from n))
+Inv-loop s from n keys source₀ source = repeats sameSource (sourcesFrom s (from + 40 * source) (n - source)) ≡ repeats sameSource (sourcesFrom s from n)
 
 abbrev μ-loop : tie.MeasureT-loop
-μ-loop s from n p₀ left₀ p left = left
+μ-loop s from n keys source₀ source = n - source
+
+source-keys-requires : tie.Need-source-keys-requires Inv-loop μ-loop
+source-keys-requires c κs = search needs
 
 loop-holds : tie.Need-loop-holds Inv-loop μ-loop
-loop-holds c = (c .before .pre .0, c .before .pre .1, refl)
+loop-holds c = ap (repeats sameSource) (sources-start (c .before .before .args .s .now) (c .before .before .args .from) (c .before .before .args .n))
 
-add-p : tie.Need-add-p Inv-loop μ-loop
-add-p c = search needs
+add-later : tie.Need-add-later Inv-loop μ-loop
+add-later c = search needs
 
-sub-left : tie.Need-sub-left Inv-loop μ-loop
-sub-left c = search needs
+mul-is-among : tie.Need-mul-is-among Inv-loop μ-loop
+mul-is-among c = search needs
 
-source-again-requires : tie.Need-source-again-requires Inv-loop μ-loop
-source-again-requires c κs = search needs
+array-read-is-among : tie.Need-array-read-is-among Inv-loop μ-loop
+array-read-is-among c = search needs
+
+mul-is-among-2 : tie.Need-mul-is-among-2 Inv-loop μ-loop
+mul-is-among-2 c = search needs
+
+sub-is-among : tie.Need-sub-is-among Inv-loop μ-loop
+sub-is-among c = search needs
+
+part-is-among-start : tie.Need-part-is-among-start Inv-loop μ-loop
+part-is-among-start c = search needs
+
+part-is-among-end : tie.Need-part-is-among-end Inv-loop μ-loop
+part-is-among-end c = search needs
+
+is-among-requires : tie.Need-is-among-requires Inv-loop μ-loop
+is-among-requires c κs = search needs
 
 returns : tie.Need-returns Inv-loop μ-loop
-returns c = repeats-hit sameSource (sources-step (c .before .before .before .before .before .args .s .now) (c .before .before .before .loop .p) (c .before .before .loop-test .taken)) (c .before .source-again .ensures) (c .if1 .taken) ∙ (c .before .before .before .loop .inv .2)
+returns c = repeats-hit sameSource (sources-on (c .before .before .before .before .before .before .before .before .args .s .now) (c .before .before .before .before .before .before .before .before .args .from) (c .before .before .before .before .before .before .before .before .args .n) (c .before .before .before .before .before .loop .source) (c .before .before .before .before .loop-test .taken)) (found-later (c .before .before .before .before .before .before .before .before .args .s .now) (c .before .before .before .before .before .before .before .before .args .from) (c .before .before .before .before .before .before .before .before .pre .0) (c .before .before .before .before .before .before .source-keys .ensures) (c .before .before .before .before .before .loop .source) (c .before .before .before .before .loop-test .taken) (c .before .is-among .ensures)) (c .if1 .taken) ∙ c .before .before .before .before .before .loop .inv
 
 loop-less : tie.Need-loop-less Inv-loop μ-loop
 loop-less c = search needs
 
 loop-again : tie.Need-loop-again Inv-loop μ-loop
-loop-again c = (omega arith, omega arith, sym (repeats-miss sameSource (sources-step (c .before .before .before .before .before .args .s .now) (c .before .before .before .loop .p) (c .before .before .loop-test .taken)) (c .before .source-again .ensures) (c .if1 .left)) ∙ (c .before .before .before .loop .inv .2))
+loop-again c = sym (repeats-miss sameSource (sources-on (c .before .before .before .before .before .before .before .before .args .s .now) (c .before .before .before .before .before .before .before .before .args .from) (c .before .before .before .before .before .before .before .before .args .n) (c .before .before .before .before .before .loop .source) (c .before .before .before .before .loop-test .taken)) (found-later (c .before .before .before .before .before .before .before .before .args .s .now) (c .before .before .before .before .before .before .before .before .args .from) (c .before .before .before .before .before .before .before .before .pre .0) (c .before .before .before .before .before .before .source-keys .ensures) (c .before .before .before .before .before .loop .source) (c .before .before .before .before .loop-test .taken) (c .before .is-among .ensures)) (c .if1 .left)) ∙ c .before .before .before .before .before .loop .inv
 
 returns-2 : tie.Need-returns-2 Inv-loop μ-loop
-returns-2 c = let z : c .before .loop .left ≡ 0 = omega arith in repeats-none sameSource (sources-none (c .before .before .before .args .s .now) (c .before .loop .p) z) ∙ (c .before .loop .inv .2)
+returns-2 c = repeats-none sameSource (sources-past (c .before .before .before .before .args .s .now) (c .before .before .before .before .args .from) (c .before .before .before .before .args .n) (c .before .loop .source) (c .loop-test .left)) ∙ c .before .loop .inv
 
 pub sources-twice-spec : {M : Type 1} → statement M
 sources-twice-spec =
@@ -45,10 +64,16 @@ sources-twice-spec =
     (tie.spec
     Inv-loop
     μ-loop
+    source-keys-requires
     loop-holds
-    add-p
-    sub-left
-    source-again-requires
+    add-later
+    mul-is-among
+    array-read-is-among
+    mul-is-among-2
+    sub-is-among
+    part-is-among-start
+    part-is-among-end
+    is-among-requires
     returns
     loop-less
     loop-again

@@ -28,7 +28,7 @@ part-more s i j h l =
     let r : suc i ≡ i + 1 = omega arith in
     ap (λ (n : ℕ). take n (drop i s)) q ∙ ap (take (suc (j - (i + 1)))) (drop-cons s i 256 l) ∙ ap (λ (k : ℕ). getD s i 256 ∷ take (j - (i + 1)) (drop k s)) r
 
-part-none : (s : Text) (i j : ℕ) → i ≡ j → part s i j ≡ []
+pub part-none : (s : Text) (i j : ℕ) → i ≡ j → part s i j ≡ []
 unfolding part
 part-none s i j h = let q : j - i ≡ 0 = omega arith in ap (λ (n : ℕ). take n (drop i s)) q
 

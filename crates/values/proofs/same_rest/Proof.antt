@@ -1,15 +1,14 @@
--- `values::same_rest` meets its contract. The loop keeps that what was left at first is the same exactly where what is left now is. Texts that begin with characters are the same where the characters are and what follows is, since UTF-8 tells each character from its bytes; plain bytes that are the same are some such steps.
+-- `values::same_rest` meets its contract. The loop keeps that what was left at first is the same exactly where what is left now is. Texts that begin with characters are the same where the characters are and what follows is, since UTF-8 tells each character from its bytes; bytes that `row` passes at both positions do not matter.
 -- Assumes nothing.
 use mathlib.Core.Path.{_≡_, refl, sym, _∙_}
 use Prim.Native.Nat.{_-_}
 use native.Mathlib.Omega.{arith}
 use lib.ListN.{length}
 use borrow.Author.Needs.{needs}
-use Rattle.values.proofs.Compare.{both-close, both-longer, both-other, both-more, both-alike, both-stop-left, both-stop-right}
+use Rattle.values.proofs.Compare.{both-close, both-longer, both-other, both-more, both-stop-left, both-stop-right}
 use Rattle.values.proofs.Widths.{character-in, some-byte}
 use Rattle.values.specs.laws.Rest.{code-of, code-no}
 use Rattle.values.specs.Strings.{bothText, rest}
-use Rattle.values.specs.laws.Ordinary.{reads-itself, inside}
 use Rattle.values.proofs.same_rest.Statement.{statement}
 use Rattle.values.proofs.same_rest.Tie as tie
 
@@ -34,35 +33,20 @@ returns c = both-close _ _ _ (c .before .before .before .loop .inv) (sym (c .bef
 returns-2 : tie.Need-returns-2 Inv-loop μ-loop
 returns-2 c = both-longer _ _ _ (c .before .before .before .before .loop .inv) (λ e. c .before .if1 .left (c .before .before .before .byte .ensures ∙ e)) (sym (c .before .before .byte2 .ensures) ∙ c .if2 .taken)
 
-both-ordinary-requires : tie.Need-both-ordinary-requires Inv-loop μ-loop
-both-ordinary-requires c κs = search needs
-
-returns-3 : tie.Need-returns-3 Inv-loop μ-loop
-returns-3 c = both-other _ _ _ (c .before .before .before .before .before .before .before .loop .inv) (λ e. c .before .before .before .before .if1 .left (c .before .before .before .before .before .before .byte .ensures ∙ e)) (λ e. c .before .before .before .if2 .left (c .before .before .before .before .before .byte2 .ensures ∙ e)) (reads-itself _ _ (c .before .before .before .before .before .before .byte .ensures) (c .before .before .both-ordinary .ensures (c .before .if3 .taken) .0) (c .before .before .before .before .if1 .left)) (reads-itself _ _ (c .before .before .before .before .before .byte2 .ensures) (c .before .before .both-ordinary .ensures (c .before .if3 .taken) .1) (c .before .before .before .if2 .left)) (c .if4 .taken)
-
-add-alike : tie.Need-add-alike Inv-loop μ-loop
-add-alike c = omega (arith, inside _ _ (c .before .before .before .before .before .before .byte .ensures) (c .before .before .both-ordinary .ensures (c .before .if3 .taken) .0))
-
-add-alike-2 : tie.Need-add-alike-2 Inv-loop μ-loop
-add-alike-2 c = omega (arith, inside _ _ (c .before .before .before .before .before .byte2 .ensures) (c .before .before .both-ordinary .ensures (c .before .if3 .taken) .1))
-
-alike-requires : tie.Need-alike-requires Inv-loop μ-loop
-alike-requires c κs = (omega (arith, inside _ _ (c .before .before .before .before .before .before .byte .ensures) (c .before .before .both-ordinary .ensures (c .before .if3 .taken) .0)), omega (arith, inside _ _ (c .before .before .before .before .before .byte2 .ensures) (c .before .before .both-ordinary .ensures (c .before .if3 .taken) .1)))
-
-add-n : tie.Need-add-n Inv-loop μ-loop
-add-n c = omega (arith, c .alike .ensures .left)
+row-requires : tie.Need-row-requires Inv-loop μ-loop
+row-requires c κs = (c .before .before .before .byte .ensures, c .before .before .byte2 .ensures, c .before .if1 .left)
 
 add-i : tie.Need-add-i Inv-loop μ-loop
-add-i c = omega (arith, c .alike .ensures .left)
+add-i c = omega (arith, c .before .row .ensures .left)
 
 add-k : tie.Need-add-k Inv-loop μ-loop
-add-k c = omega (arith, c .alike .ensures .right)
+add-k c = omega (arith, c .before .row .ensures .right)
 
 loop-less : tie.Need-loop-less Inv-loop μ-loop
-loop-less c = omega (arith, inside _ _ (c .before .before .before .before .before .before .before .byte .ensures) (c .before .before .before .both-ordinary .ensures (c .before .before .if3 .taken) .0))
+loop-less c = omega (arith, c .before .row .ensures .left)
 
 loop-again : tie.Need-loop-again Inv-loop μ-loop
-loop-again c = both-alike _ _ _ (both-more _ _ _ (c .before .before .before .before .before .before .before .before .loop .inv) (λ e. c .before .before .before .before .before .if1 .left (c .before .before .before .before .before .before .before .byte .ensures ∙ e)) (λ e. c .before .before .before .before .if2 .left (c .before .before .before .before .before .before .byte2 .ensures ∙ e)) (reads-itself _ _ (c .before .before .before .before .before .before .before .byte .ensures) (c .before .before .before .both-ordinary .ensures (c .before .before .if3 .taken) .0) (c .before .before .before .before .before .if1 .left)) (reads-itself _ _ (c .before .before .before .before .before .before .byte2 .ensures) (c .before .before .before .both-ordinary .ensures (c .before .before .if3 .taken) .1) (c .before .before .before .before .if2 .left)) (c .before .if4 .left)) (c .alike .ensures)
+loop-again c = c .before .row .ensures .on ∙ c .before .before .before .before .before .before .loop .inv
 
 character-requires : tie.Need-character-requires Inv-loop μ-loop
 character-requires c κs = search needs
@@ -76,26 +60,26 @@ character-requires-2 c κs = search needs
 enum-known-w : tie.Need-enum-known-w Inv-loop μ-loop
 enum-known-w c = search needs
 
-returns-4 : tie.Need-returns-4 Inv-loop μ-loop
-returns-4 c = both-other _ _ _ (c .before .before .before .before .before .before .before .before .before .before .before .before .before .before .before .loop .inv) (λ e. c .before .before .before .before .before .before .before .before .before .before .before .before .if1 .left (c .before .before .before .before .before .before .before .before .before .before .before .before .before .before .byte .ensures ∙ e)) (λ e. c .before .before .before .before .before .before .before .before .before .before .before .if2 .left (c .before .before .before .before .before .before .before .before .before .before .before .before .before .byte2 .ensures ∙ e)) (code-of _ (c .before .before .before .before .before .before .before .before .character .ensures) (c .before .before .before .before .before .before .v .given .1)) (code-of _ (c .before .before .before .before .character2 .ensures) (c .before .before .w .given .1)) (c .if5 .taken)
+returns-3 : tie.Need-returns-3 Inv-loop μ-loop
+returns-3 c = both-other _ _ _ (c .before .before .before .before .before .before .before .before .before .before .before .before .before .before .before .loop .inv) (λ e. c .before .before .before .before .before .before .before .before .before .before .before .before .if1 .left (c .before .before .before .before .before .before .before .before .before .before .before .before .before .before .byte .ensures ∙ e)) (λ e. c .before .before .before .before .before .before .before .before .before .before .before .if2 .left (c .before .before .before .before .before .before .before .before .before .before .before .before .before .byte2 .ensures ∙ e)) (code-of _ (c .before .before .before .before .before .before .before .before .character .ensures) (c .before .before .before .before .before .before .v .given .1)) (code-of _ (c .before .before .before .before .character2 .ensures) (c .before .before .w .given .1)) (c .if4 .taken)
 
 loop-less-2 : tie.Need-loop-less-2 Inv-loop μ-loop
 loop-less-2 c = omega (arith, character-in _ (code-of _ (c .before .before .before .before .before .before .before .before .character .ensures) (c .before .before .before .before .before .before .v .given .1)), some-byte (c .before .before .before .before .before .before .v .given .0 .0))
 
 loop-again-2 : tie.Need-loop-again-2 Inv-loop μ-loop
-loop-again-2 c = both-more _ _ _ (c .before .before .before .before .before .before .before .before .before .before .before .before .before .before .before .loop .inv) (λ e. c .before .before .before .before .before .before .before .before .before .before .before .before .if1 .left (c .before .before .before .before .before .before .before .before .before .before .before .before .before .before .byte .ensures ∙ e)) (λ e. c .before .before .before .before .before .before .before .before .before .before .before .if2 .left (c .before .before .before .before .before .before .before .before .before .before .before .before .before .byte2 .ensures ∙ e)) (code-of _ (c .before .before .before .before .before .before .before .before .character .ensures) (c .before .before .before .before .before .before .v .given .1)) (code-of _ (c .before .before .before .before .character2 .ensures) (c .before .before .w .given .1)) (c .if5 .left)
+loop-again-2 c = both-more _ _ _ (c .before .before .before .before .before .before .before .before .before .before .before .before .before .before .before .loop .inv) (λ e. c .before .before .before .before .before .before .before .before .before .before .before .before .if1 .left (c .before .before .before .before .before .before .before .before .before .before .before .before .before .before .byte .ensures ∙ e)) (λ e. c .before .before .before .before .before .before .before .before .before .before .before .if2 .left (c .before .before .before .before .before .before .before .before .before .before .before .before .before .byte2 .ensures ∙ e)) (code-of _ (c .before .before .before .before .before .before .before .before .character .ensures) (c .before .before .before .before .before .before .v .given .1)) (code-of _ (c .before .before .before .before .character2 .ensures) (c .before .before .w .given .1)) (c .if4 .left)
 
 enum-told : tie.Need-enum-told Inv-loop μ-loop
 enum-told c = search needs
 
-returns-5 : tie.Need-returns-5 Inv-loop μ-loop
-returns-5 c = both-stop-right _ _ _ (c .before .before .before .before .before .before .before .before .before .before .before .before .before .loop .inv) (λ e. c .before .before .before .before .before .before .before .before .before .if2 .left (c .before .before .before .before .before .before .before .before .before .before .before .byte2 .ensures ∙ e)) (code-no _ (c .before .before .character2 .ensures) (c .enum-told .given .1))
+returns-4 : tie.Need-returns-4 Inv-loop μ-loop
+returns-4 c = both-stop-right _ _ _ (c .before .before .before .before .before .before .before .before .before .before .before .before .before .loop .inv) (λ e. c .before .before .before .before .before .before .before .before .before .if2 .left (c .before .before .before .before .before .before .before .before .before .before .before .byte2 .ensures ∙ e)) (code-no _ (c .before .before .character2 .ensures) (c .enum-told .given .1))
 
 enum-told-2 : tie.Need-enum-told-2 Inv-loop μ-loop
 enum-told-2 c = search needs
 
-returns-6 : tie.Need-returns-6 Inv-loop μ-loop
-returns-6 c = both-stop-left _ _ _ (c .before .before .before .before .before .before .before .before .before .loop .inv) (λ e. c .before .before .before .before .before .before .if1 .left (c .before .before .before .before .before .before .before .before .byte .ensures ∙ e)) (code-no _ (c .before .before .character .ensures) (c .enum-told2 .given .1))
+returns-5 : tie.Need-returns-5 Inv-loop μ-loop
+returns-5 c = both-stop-left _ _ _ (c .before .before .before .before .before .before .before .before .before .loop .inv) (λ e. c .before .before .before .before .before .before .if1 .left (c .before .before .before .before .before .before .before .before .byte .ensures ∙ e)) (code-no _ (c .before .before .character .ensures) (c .enum-told2 .given .1))
 
 pub same-rest-spec : {M : Type 1} → statement M
 same-rest-spec =
@@ -108,12 +92,7 @@ same-rest-spec =
     byte-requires-2
     returns
     returns-2
-    both-ordinary-requires
-    returns-3
-    add-alike
-    add-alike-2
-    alike-requires
-    add-n
+    row-requires
     add-i
     add-k
     loop-less
@@ -122,10 +101,10 @@ same-rest-spec =
     enum-known-v
     character-requires-2
     enum-known-w
-    returns-4
+    returns-3
     loop-less-2
     loop-again-2
     enum-told
-    returns-5
+    returns-4
     enum-told-2
-    returns-6)
+    returns-5)
