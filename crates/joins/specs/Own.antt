@@ -1,4 +1,4 @@
--- The tables' own meaning: a meaning whose machines have the numbers that the tables tell. With more than 32 names the table of names holds 32 of them, so
+-- The tables' own meaning: a meaning whose machines have the numbers that the tables tell. With more than 32 names the table of lookups holds 32 of them, so
 -- that these numbers are not the meaning's; all else is. Assumes nothing.
 use mathlib.Core.List.{List, [], _∷_}
 use Prim.Native.Nat.{ℕ, suc}

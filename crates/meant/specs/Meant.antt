@@ -1,5 +1,5 @@
 -- What may be asked of a manifest's tables, over any tables: theorem `told` says that over those of an accepted manifest the answers are the
--- meaning's parts. Assumes nothing.
+-- meaning's parts. `names` is the table of lookups (`lookups` in `finds`), which begins with the names of machines. Assumes nothing.
 use mathlib.Core.List.{List}
 use Prim.Native.Nat.{ℕ, _+_, _-_}
 use lib.Dec.{eqb, ltb}

@@ -36,7 +36,7 @@ toldPart z nothing = Undeclared
 toldPart z (whole-file k) = Undeclared
 toldPart z (parts l) = partWith z l
 
--- `Tells s ix w`: over the index ix of a text s and its table of names, each answer is a part of the meaning w. (d is for no place of the list)
+-- `Tells s ix w`: over the index ix of a text s and its table of lookups, each answer is a part of the meaning w. (d is for no place of the list)
 pub record Tells (s : Text) (ix : List ℕ) (w : Meaning) : Type 0 where
   pub entries-told : entriesIn ix ≡ length (w .listed)
   pub names-told : countIn (lookups s ix) ≡ length (w .names)
