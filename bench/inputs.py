@@ -12,6 +12,7 @@ import math
 import os
 import pathlib
 import random
+import re
 import sys
 
 HERE = os.path.dirname(os.path.abspath(__file__))
@@ -118,14 +119,20 @@ def crammed(front, begin, part, end):
     return text[:at] + begin + part * count + end + text[at:], few_sheet(100)
 
 
-def related_files(path, escapes=True):
+def related_files(path, escapes=True, name=lambda i: f'm{i % 31}'):
     """32 files, each on a machine of its own but one, and each related to the one before."""
-    entries = [{'path': path(i), 'machine': {'name': f'm{i % 31}'}} for i in range(32)]
+    entries = [{'path': path(i), 'machine': {'name': name(i)}} for i in range(32)]
     for before, entry in zip(entries, entries[1:]):
         there = {'file': before['path'], 'machine': before['machine']['name'], 'clock': 'MONOTONIC'}
         entry['clocks'] = {'clock': 'BOOTTIME', 'machine': entry['machine']['name'], 'sync_to': there, 'offset_ns': 250000000}
     listed = [File(0, BOOTTIME, entry['path'].encode()) for entry in entries] + [Source(i, 0) for i in range(32)]
     return manifest({'version': 1, 'files': entries}, escapes), sheet(listed, [Event(i, BOOTTIME, SECOND) for i in range(32)])
+
+
+def two_ways():
+    """The same with paths that stand in `path` as escapes of a letter, and are cited with escapes of a number."""
+    text, bits = related_files(lambda i: '\t' * 200 + f'{i:02}')
+    return re.sub(rb'("file":")((?:\\t)+)', lambda m: m[1] + m[2].replace(b'\\t', b'\\u0009'), text), bits
 
 
 def few_events():
@@ -191,6 +198,9 @@ INPUTS['files-short'] = ('32 related files, short paths', lambda: related_files(
 INPUTS['files-long'] = ('32 related files, paths of 250 bytes', lambda: related_files(lambda i: 'lab/' * 60 + f'{i:02}.pftrace'))
 INPUTS['files-wide'] = ('32 related files, paths of two-byte characters', lambda: related_files(lambda i: 'é' * 126 + f'{i:02}', False))
 INPUTS['files-escaped'] = ('32 related files, paths of escapes', lambda: related_files(lambda i: '\t' * 252 + f'{i:02}'))
+INPUTS['files-numbered'] = ('32 related files, paths of long escapes', lambda: related_files(lambda i: 'é' * 126 + f'{i:02}'))
+INPUTS['files-two-ways'] = ('32 related files, paths escaped in two ways', two_ways)
+INPUTS['names-escaped'] = ('32 related files, machine names of escapes', lambda: related_files(lambda i: f'{i:02}', name=lambda i: '\t' * 62 + f'{i % 31:02}'))
 INPUTS['snapshots'] = ('256 snapshots of 32 files, 32 events', few_events)
 INPUTS['long-ways'] = ('paths of 191 pairs', long_ways)
 INPUTS['worst'] = ('the worst found: paths of 185 pairs, manifest of 64 KiB', worst)

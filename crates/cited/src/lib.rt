@@ -3,49 +3,34 @@ ghost use mathlib.Core.Path.{_≡_};
 ghost use Prim.Native.Nat.{_<_};
 ghost use Rattle.json.specs.Tree.{same};
 ghost use Rattle.manifest.specs.Rows.{holds, any, declared};
-ghost use Rattle.manifest.specs.Rules.{applies, first, named-entry, no-entry, not-declared, no-integer, too-far};
+ghost use Rattle.manifest.specs.Rules.{applies, first, not-declared, no-integer, too-far};
 ghost use Rattle.manifest.specs.Rules.{refusal-19-file-names-no-entry, refusal-20-no-machine-of-a-split-file, refusal-21-machine-not-declared};
 ghost use Rattle.manifest.specs.Rules.{refusal-22-offset-not-an-integer, refusal-23-offset-out-of-range, refusal-24-clock-related-to-itself};
 ghost use Rattle.index.specs.Index.{textAt, textCell, offsetCell, entryAt, manifestOf};
-ghost use Rattle.finds.specs.Finds.{citesOf};
+ghost use Rattle.named.specs.Prints.{pathPrints};
+ghost use Rattle.finds.specs.Finds.{citesOf, traceCited};
+ghost use Rattle.sizes.specs.Sizes.{broken-paths};
+ghost use Rattle.once.specs.Once.{path-twice};
 ghost use Rattle.cited.specs.Cited.{cited-rules};
 ghost use Rattle.cited.specs.laws.Within.{outsideOf, withinAt};
-ghost use Rattle.cited.specs.laws.Files.{foundAt};
 ghost use Rattle.cited.specs.laws.Declared.{machineIs};
 ghost use Rattle.cited.specs.laws.Rule20.{splitAt, ownless, unnamed};
 ghost use Rattle.cited.specs.laws.Rule21.{strangeIn};
+use listed::PathFacts;
 
-// Which entry the file at p names; 32 if it names none, or if p is 0.
-fn cited_entry(s: &[u8], ix: &[usize; 2470], p: usize) -> usize
-    ensures { λ r. ⌜ named-entry (manifestOf (now (s .entry)) (now (ix .entry))) (textCell (now (s .entry)) p) ≡ foundAt (now (s .entry)) (now (ix .entry)) r ⌝ }
-{
-    if p == 0 {
-        return 32;
-    }
-    finds::entry_with(s, ix, p)
-}
-
-// A file is cited at p, and no entry has its path.
-fn cites_no_entry(s: &[u8], ix: &[usize; 2470], p: usize) -> bool
-    ensures { λ r. ⌜ r ≡ holds (no-entry (manifestOf (now (s .entry)) (now (ix .entry)))) (textCell (now (s .entry)) p) ⌝ }
-{
-    if p == 0 {
-        return false;
-    }
-    let e = finds::entry_with(s, ix, p);
-    let found = e < 32;
-    !found
-}
-
-// 19 in `trace_time`.
-fn refusal_19_outside(s: &[u8], ix: &[usize; 2470]) -> bool
+// 19 in `trace_time`. (`trace` tells, here and below, which entry its `file` names.)
+fn refusal_19_outside(s: &[u8], ix: &[usize; 2470], trace: usize) -> bool
+    requires { ⌜ trace ≡ traceCited (now s) (now ix) ⌝ }
     ensures { λ r. ⌜ r ≡ outsideOf refusal-19-file-names-no-entry (now (s .entry)) (now (ix .entry)) ⌝ }
 {
     if ix[1] == 0 {
         return false;
     }
-    let cited = ix[3];
-    cites_no_entry(s, ix, cited)
+    if ix[3] == 0 {
+        return false;
+    }
+    let known = trace < 32;
+    !known
 }
 
 // 19 in entry i. (`cites` tells, here and below, which entry the `file` of each entry's `sync_to` names: it is looked for once.)
@@ -67,11 +52,16 @@ fn refusal_19_in(s: &[u8], ix: &[usize; 2470], i: usize, cites: &[usize; 32]) ->
 }
 
 // 19: a `file` in `sync_to` or `trace_time` names no entry.
-fn refusal_19_file_names_no_entry(s: &[u8], ix: &[usize; 2470], cites: &[usize; 32]) -> bool
-    requires { ⌜ now cites ≡ citesOf (now s) (now ix) ⌝ }
+fn refusal_19_file_names_no_entry(
+    s: &[u8],
+    ix: &[usize; 2470],
+    cites: &[usize; 32],
+    trace: usize,
+) -> bool
+    requires { ⌜ (now cites ≡ citesOf (now s) (now ix)) × (trace ≡ traceCited (now s) (now ix)) ⌝ }
     ensures { λ r. ⌜ r ≡ applies refusal-19-file-names-no-entry (manifestOf (now (s .entry)) (now (ix .entry))) ⌝ }
 {
-    if refusal_19_outside(s, ix) {
+    if refusal_19_outside(s, ix, trace) {
         return true;
     }
     let n = index::entries(ix);
@@ -210,15 +200,15 @@ fn is_strange(s: &[u8], ix: &[usize; 2470], e: usize, q: usize) -> bool
 }
 
 // 21 in `trace_time`.
-fn refusal_21_outside(s: &[u8], ix: &[usize; 2470]) -> bool
+fn refusal_21_outside(s: &[u8], ix: &[usize; 2470], trace: usize) -> bool
+    requires { ⌜ trace ≡ traceCited (now s) (now ix) ⌝ }
     ensures { λ r. ⌜ r ≡ outsideOf refusal-21-machine-not-declared (now (s .entry)) (now (ix .entry)) ⌝ }
 {
     if ix[1] == 0 {
         return false;
     }
-    let e = cited_entry(s, ix, ix[3]);
     let machine = ix[4];
-    is_strange(s, ix, e, machine)
+    is_strange(s, ix, trace, machine)
 }
 
 // 21 in entry i.
@@ -242,11 +232,16 @@ fn refusal_21_in(s: &[u8], ix: &[usize; 2470], i: usize, cites: &[usize; 32]) ->
 }
 
 // 21: a `machine` in `clocks`, `sync_to` or `trace_time` is not declared by that file.
-fn refusal_21_machine_not_declared(s: &[u8], ix: &[usize; 2470], cites: &[usize; 32]) -> bool
-    requires { ⌜ now cites ≡ citesOf (now s) (now ix) ⌝ }
+fn refusal_21_machine_not_declared(
+    s: &[u8],
+    ix: &[usize; 2470],
+    cites: &[usize; 32],
+    trace: usize,
+) -> bool
+    requires { ⌜ (now cites ≡ citesOf (now s) (now ix)) × (trace ≡ traceCited (now s) (now ix)) ⌝ }
     ensures { λ r. ⌜ r ≡ applies refusal-21-machine-not-declared (manifestOf (now (s .entry)) (now (ix .entry))) ⌝ }
 {
-    if refusal_21_outside(s, ix) {
+    if refusal_21_outside(s, ix, trace) {
         return true;
     }
     let n = index::entries(ix);
@@ -376,19 +371,24 @@ fn refusal_24_clock_related_to_itself(s: &[u8], ix: &[usize; 2470], cites: &[usi
     false
 }
 
-// The number of the first of these rules that applies to the manifest; 0 if none does. `cites` gets, for each entry, which entry it cites.
-pub fn refusal(s: &[u8], ix: &[usize; 2470], cites: &mut [usize; 32]) -> u8
-    ensures { λ r. ⌜ (r ≡ first cited-rules (manifestOf (now (s .entry)) (now (ix .entry)))) × (now (cites .exit) ≡ citesOf (now (s .entry)) (now (ix .entry))) ⌝ }
+// What is judged: the number of the first of these rules that applies, and what is known of the paths, by which others are judged.
+pub struct Judged {
+    pub refusal: u8,
+    pub paths: PathFacts,
+}
+
+// The number of the first of these rules that applies to the manifest; 0 if none does.
+fn first_rule(s: &[u8], ix: &[usize; 2470], cites: &[usize; 32], trace: usize) -> u8
+    requires { ⌜ (now cites ≡ citesOf (now s) (now ix)) × (trace ≡ traceCited (now s) (now ix)) ⌝ }
+    ensures { λ r. ⌜ r ≡ first cited-rules (manifestOf (now (s .entry)) (now (ix .entry))) ⌝ }
 {
-    let table = finds::cites(s, ix);
-    *cites = table;
-    if refusal_19_file_names_no_entry(s, ix, &table) {
+    if refusal_19_file_names_no_entry(s, ix, cites, trace) {
         return 19;
     }
-    if refusal_20_no_machine_of_a_split_file(s, ix, &table) {
+    if refusal_20_no_machine_of_a_split_file(s, ix, cites) {
         return 20;
     }
-    if refusal_21_machine_not_declared(s, ix, &table) {
+    if refusal_21_machine_not_declared(s, ix, cites, trace) {
         return 21;
     }
     if refusal_22_offset_not_an_integer(s, ix) {
@@ -397,8 +397,23 @@ pub fn refusal(s: &[u8], ix: &[usize; 2470], cites: &mut [usize; 32]) -> u8
     if refusal_23_offset_out_of_range(s, ix) {
         return 23;
     }
-    if refusal_24_clock_related_to_itself(s, ix, &table) {
+    if refusal_24_clock_related_to_itself(s, ix, cites) {
         return 24;
     }
     0
+}
+
+// The same, with what is known of the paths: they are read once, here.
+pub fn refusal(s: &[u8], ix: &[usize; 2470]) -> Judged
+    ensures refusal { λ r. ⌜ r .refusal ≡ first cited-rules (manifestOf (now (s .entry)) (now (ix .entry))) ⌝ }
+    ensures cites { λ r. ⌜ r .paths .cites ≡ citesOf (now (s .entry)) (now (ix .entry)) ⌝ }
+    ensures trace { λ r. ⌜ r .paths .trace ≡ traceCited (now (s .entry)) (now (ix .entry)) ⌝ }
+    ensures prints { λ r. ⌜ r .paths .prints ≡ pathPrints (now (s .entry)) (now (ix .entry)) ⌝ }
+    ensures broken { λ r. ⌜ r .paths .broken ≡ broken-paths (manifestOf (now (s .entry)) (now (ix .entry))) ⌝ }
+    ensures twice { λ r. ⌜ r .paths .twice ≡ path-twice (manifestOf (now (s .entry)) (now (ix .entry))) ⌝ }
+{
+    let paths = listed::paths(s, ix);
+    let cites = paths.cites;
+    let refusal = first_rule(s, ix, &cites, paths.trace);
+    Judged { refusal, paths }
 }

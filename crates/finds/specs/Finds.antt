@@ -1,13 +1,15 @@
 -- What is found in an index: the entry of a path, the entry that each cites, the item of an id, the name of a file's base machine; and a table of what is asked for often.
 -- Assumes nothing.
-use mathlib.Core.List.{List, _++_, map}
+use mathlib.Core.List.{List, [], _∷_, _++_, map}
 use Prim.Native.Nat.{ℕ, _+_}
 use lib.Dec.{eqb, ltb}
 use lib.IntN.{pos}
+use lib.ListN.{getD}
 use Rattle.text.specs.Reading.{Text, pick}
 use Rattle.manifest.specs.Rows.{Manifest, id, firstOr, holds, entries, its-items}
 use Rattle.manifest.specs.Rules.{has-path, same-id}
-use Rattle.index.specs.Index.{textAt, colOf, itemOf, listed, entryAt, manifestOf}
+use Rattle.index.specs.Index.{textAt, colOf, itemOf, entriesIn, listed, entryAt, manifestOf}
+use Rattle.named.specs.Prints.{pathPrints}
 use Rattle.named.specs.Named.{nameTable, printTable}
 
 -- which entry has a path: the first one that has it; 32 if none has
@@ -22,13 +24,24 @@ citedBy s ix i = pick (eqb (colOf ix i 8) 0) 32 (entryOf (manifestOf s ix) (text
 unfoldable pub citesOf : Text → List ℕ → List ℕ
 citesOf s ix = listed (citedBy s ix) 0 32
 
+-- which entry the `file` of `trace_time` names; 32 if it names none, or if there is no such `file`
+unfoldable pub traceCited : Text → List ℕ → ℕ
+traceCited s ix = pick (eqb (getD ix 3 0) 0) 32 (entryOf (manifestOf s ix) (textAt s (getD ix 3 0)))
+
 -- a cited entry's number, from 1 on; 0 for none
 unfoldable pub fromOne : ℕ → ℕ
 fromOne e = pick (ltb e 32) (e + 1) 0
 
--- what is looked up often, in one table: where the names of machines 1, 2, .. stand, their prints, and which entry each entry cites
+-- of 32 numbers those of the entries that there are, then zeros
+unfoldable pub ofEntries : List ℕ → List ℕ → List ℕ
+ofEntries ix l = listed (λ i. pick (ltb i (entriesIn ix)) (getD l i 0) 0) 0 32
+
+-- what is looked up often, in one table: where the names of machines 1, 2, .. stand, their prints, which entry each entry cites, the prints of the entries' paths, and which entry
+-- `trace_time` cites
 unfoldable pub lookups : Text → List ℕ → List ℕ
-lookups s ix = nameTable s ix ++ (printTable s ix ++ map fromOne (citesOf s ix))
+lookups s ix =
+    nameTable s ix
+    ++ (printTable s ix ++ (map fromOne (citesOf s ix) ++ (ofEntries ix (pathPrints s ix) ++ (fromOne (traceCited s ix) ∷ []))))
 
 -- which item of entry i has an id: the first one that has it; 32 if none has
 unfoldable pub itemWith : Text → List ℕ → ℕ → ℕ → ℕ

@@ -2,4 +2,3 @@
 pub mod Words
 pub mod Steps
 pub mod Recorded
-pub mod Listings

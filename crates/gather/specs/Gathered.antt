@@ -1,15 +1,16 @@
 -- The table of what is known (crate checks, specs/Table), made from a sheet's bytes and a manifest's tables. Assumes nothing.
-use mathlib.Core.Bool.{Bool}
+use mathlib.Core.Bool.{Bool, _&&_}
 use mathlib.Core.List.{List, [], _∷_, _++_}
 use Prim.Native.Nat.{ℕ, _+_, _*_}
 use lib.Dec.{eqb, ltb}
-use lib.ListN.{replicate}
+use lib.ListN.{getD, replicate}
 use Rattle.text.specs.Reading.{Text, pick}
 use Rattle.manifest.specs.declared.Cited.{Cited}
 use Rattle.manifest.specs.declared.Cited.the-variants.{Private, Domain}
 use Rattle.manifest.specs.declared.Link.{Link}
 use Rattle.manifest.specs.declared.Link.the-variants.{Unrelated, Related}
-use Rattle.manifest.specs.Rows.{any}
+use Rattle.json.specs.Tree.{same}
+use Rattle.manifest.specs.Rows.{any, firstOr, holds}
 use Rattle.records.specs.Readers.{headAt, sourceAt, snapshotAt, pathAt}
 use Rattle.records.specs.declared.Head.{Head}
 use Rattle.records.specs.declared.Source.{Source}
@@ -19,8 +20,8 @@ use Rattle.sheet.specs.Sheets.{readOf}
 use Rattle.sheet.specs.declared.Table.{Table}
 use Rattle.sheet.specs.declared.Sheet.{Sheet}
 use Rattle.sheet.specs.declared.Sheet.the-variants.{Refused, Listed}
-use Rattle.index.specs.Index.{rows, listed, entriesIn, manifestOf}
-use Rattle.finds.specs.Finds.{entryOf}
+use Rattle.index.specs.Index.{colOf, rows, listed, textCell, entriesIn}
+use Rattle.named.specs.Prints.{printFrom}
 use Rattle.named.specs.Named.{countIn}
 use Rattle.meant.specs.declared.Owned.{Owned}
 use Rattle.meant.specs.declared.Owned.the-variants.{Nobody, Whole, Split}
@@ -52,13 +53,23 @@ ownedCode Split p = partCode p
 unfoldable pub flag : Bool → ℕ
 flag c = pick c 1 0
 
+-- ---- the entry of a path, by the table of lookups: law `entry-listed` says it of the manifest's
+
+-- entry i has the path: its print in the table is the path's, and its text is
+unfoldable pub isListed : Text → List ℕ → List ℕ → Text → ℕ → Bool
+isListed s ix lookups path i = eqb (getD lookups (96 + i) 0) (printFrom 0 path) && holds (same path) (textCell s (colOf ix i 0))
+
+-- the first entry that has it; 32 if none has
+unfoldable pub entryWith : Text → List ℕ → List ℕ → Text → ℕ
+entryWith s ix lookups path = firstOr 32 (isListed s ix lookups path) (listed (λ i. i) 0 (entriesIn ix)) 0
+
 -- ---- rows
 
 -- row i of n, and zeros past the last: k numbers each
 unfoldable pub rowIn : ℕ → ℕ → (ℕ → List ℕ) → ℕ → List ℕ
 rowIn n k row i = pick (ltb i n) (row i) (replicate k 0)
 
-module _ (s : Text) (ix names : List ℕ) (b : List ℕ) (t : Table) where
+module _ (s : Text) (ix lookups : List ℕ) (b : List ℕ) (t : Table) where
   -- source j and snapshot i of the sheet
   abbrev pub sourceOf : ℕ → Source
   sourceOf j = sourceAt b (t .sources .at + 40 * j)
@@ -71,7 +82,7 @@ module _ (s : Text) (ix names : List ℕ) (b : List ℕ) (t : Table) where
   headOf f = headAt b (placeOf b 0 f)
 
   unfoldable pub entryFor : ℕ → ℕ
-  entryFor f = entryOf (manifestOf s ix) (pathAt b (placeOf b 0 f))
+  entryFor f = entryWith s ix lookups (pathAt b (placeOf b 0 f))
 
   -- one of the snapshots is by a source of file f
   unfoldable pub recordedIn : ℕ → Bool
@@ -81,8 +92,8 @@ module _ (s : Text) (ix names : List ℕ) (b : List ℕ) (t : Table) where
   unfoldable pub fileRow : ℕ → List ℕ
   fileRow f =
       entryFor f
-      ∷ tieCode (linkOf s ix names (entryFor f))
-      ∷ baseOf s ix names (entryFor f) .0
+      ∷ tieCode (linkOf s ix lookups (entryFor f))
+      ∷ baseOf s ix lookups (entryFor f) .0
       ∷ flag (headOf f .container)
       ∷ headOf f .claim
       ∷ flag (recordedIn f)
@@ -93,18 +104,18 @@ module _ (s : Text) (ix names : List ℕ) (b : List ℕ) (t : Table) where
   sourceRow j =
       sourceOf j .file .0
       ∷ sourceOf j .id
-      ∷ ownedCode (ownedOf s ix names (entryFor (sourceOf j .file .0))) (partOf s ix names (entryFor (sourceOf j .file .0)) (sourceOf j .id))
+      ∷ ownedCode (ownedOf s ix lookups (entryFor (sourceOf j .file .0))) (partOf s ix lookups (entryFor (sourceOf j .file .0)) (sourceOf j .id))
 
   -- the numbers of files, sources, entries and names; then 32 files, then 32 sources
   unfoldable pub gatheredIn : List ℕ
   gatheredIn =
-      (t .files ∷ t .sources .count ∷ entriesIn ix ∷ countIn names ∷ [])
+      (t .files ∷ t .sources .count ∷ entriesIn ix ∷ countIn lookups ∷ [])
       ++ (rows (rowIn (t .files) 6 fileRow) 32 ++ rows (rowIn (t .sources .count) 4 sourceRow) 32)
 
 -- ---- of a refused sheet nothing is known
 unfoldable pub gatheredBy : Text → List ℕ → List ℕ → List ℕ → Sheet → List ℕ
-gatheredBy s ix names b (Refused k) = replicate 324 0
-gatheredBy s ix names b (Listed t) = gatheredIn s ix names b t
+gatheredBy s ix lookups b (Refused k) = replicate 324 0
+gatheredBy s ix lookups b (Listed t) = gatheredIn s ix lookups b t
 
 unfoldable pub gathered : Text → List ℕ → List ℕ → List ℕ → List ℕ
-gathered s ix names b = gatheredBy s ix names b (readOf b)
+gathered s ix lookups b = gatheredBy s ix lookups b (readOf b)

@@ -30,6 +30,7 @@ use Rattle.merged.specs.laws.Sheets.{told, read-told}
 use Rattle.merged.specs.laws.Lists.{length-map}
 use Rattle.checks.specs.Table.{fileNumber, sourceNumber, tieOf, givenOf, isSet, fileBy, sourceBy, filesIn, sourcesHeld, factsBy}
 use Rattle.gather.specs.Gathered.{ownedCode, entryFor, fileRow, sourceRow, gatheredIn, gatheredBy, gathered}
+use Rattle.gather.specs.laws.Listings.{entry-listed}
 use Rattle.gather.specs.laws.Near.{source-below}
 use Rattle.gather.specs.laws.Codes.{givenIn, tie-right, given-right, flag-right}
 use Rattle.gather.specs.laws.Lists.{listed-map, listed-files}
@@ -47,7 +48,7 @@ module _ {s : Text} {ix : List ℕ} {w : Meaning} (k : Tells s ix w) {b : List �
   -- its entry
   entry-right : (f : ℕ) → f < t .files → entryFor s ix (lookups s ix) b t f ≡ entryBy w (here f .path)
   unfolding entryFor entryBy
-  entry-right f h = k .entry-told (pathAt b (placeOf b 0 f)) ∙ ap (λ (v : Filed). entryBy w (v .path)) (sym (file-held a f h))
+  entry-right f h = entry-listed s ix (pathAt b (placeOf b 0 f)) ∙ k .entry-told (pathAt b (placeOf b 0 f)) ∙ ap (λ (v : Filed). entryBy w (v .path)) (sym (file-held a f h))
 
   -- ---- a file
   module _ (f : ℕ) (h : f < t .files) where

@@ -9,13 +9,11 @@ ghost use Rattle.sheet.specs.Places.{placeOf};
 ghost use Rattle.sheet.specs.Sheets.{readOf};
 ghost use Rattle.json.specs.Tree.{same};
 ghost use Rattle.manifest.specs.Rows.{holds};
-ghost use Rattle.index.specs.Index.{textCell, rows, entriesIn, manifestOf};
+ghost use Rattle.index.specs.Index.{textCell, rows, entriesIn};
 ghost use Rattle.index.specs.laws.Put.{Put};
-ghost use Rattle.finds.specs.Finds.{entryOf};
-ghost use Rattle.named.specs.Prints.{pathPrints};
 ghost use Rattle.named.specs.Named.{countIn};
 ghost use Rattle.meant.specs.Meant.{ownedOf, partOf};
-ghost use Rattle.gather.specs.Gathered.{partCode, ownedCode, flag as flagOf, rowIn, fileRow, sourceRow, gatheredIn, gathered};
+ghost use Rattle.gather.specs.Gathered.{partCode, ownedCode, flag as flagOf, entryWith, rowIn, fileRow, sourceRow, gatheredIn, gathered};
 ghost use Rattle.gather.specs.laws.Near.{Near, Cites, Known, Recorded};
 use bits::Cursor;
 use meant::Owned;
@@ -79,15 +77,14 @@ fn is_path(s: &[u8], at: usize, path: &[u8]) -> bool
 }
 
 // Which entry has this path; 32 if none has. Only a path that has its print is compared with it.
-fn listing(s: &[u8], ix: &[usize; 2470], prints: &[u32; 32], path: &[u8]) -> usize
-    requires { ⌜ now prints ≡ pathPrints (now s) (now ix) ⌝ }
-    ensures { λ r. ⌜ r ≡ entryOf (manifestOf (now (s .entry)) (now (ix .entry))) (now (path .entry)) ⌝ }
+fn listing(s: &[u8], ix: &[usize; 2470], lookups: &[usize; 129], path: &[u8]) -> usize
+    ensures { λ r. ⌜ r ≡ entryWith (now (s .entry)) (now (ix .entry)) (now (lookups .entry)) (now (path .entry)) ⌝ }
 {
-    let print = named::print_of(path);
+    let print = wide(named::print_of(path));
     let n = meant::count(ix);
     let mut i: usize = 0;
     while i < n {
-        if prints[i] == print {
+        if lookups[96 + i] == print {
             if is_path(s, index::col(ix, i, 0), path) {
                 return i;
             }
@@ -98,9 +95,9 @@ fn listing(s: &[u8], ix: &[usize; 2470], prints: &[u32; 32], path: &[u8]) -> usi
 }
 
 // Which entry lists the file at a bit position; 32 if none does.
-fn path_entry(s: &[u8], ix: &[usize; 2470], prints: &[u32; 32], b: &[u8], at: usize) -> usize
-    requires { ⌜ (at < 0x1000000000) × (now prints ≡ pathPrints (now s) (now ix)) ⌝ }
-    ensures { λ r. ⌜ (r ≡ entryOf (manifestOf (now (s .entry)) (now (ix .entry))) (pathAt (now (b .entry)) at)) × (r ≤ 32) ⌝ }
+fn path_entry(s: &[u8], ix: &[usize; 2470], lookups: &[usize; 129], b: &[u8], at: usize) -> usize
+    requires { ⌜ at < 0x1000000000 ⌝ }
+    ensures { λ r. ⌜ (r ≡ entryWith (now (s .entry)) (now (ix .entry)) (now (lookups .entry)) (pathAt (now (b .entry)) at)) × (r ≤ 32) ⌝ }
 {
     let h = records::head_at(b, at);
     let n = long(h.length);
@@ -111,7 +108,7 @@ fn path_entry(s: &[u8], ix: &[usize; 2470], prints: &[u32; 32], b: &[u8], at: us
         put_word(b, at + 15 + 8 * i, &mut path, i);
         i += 8;
     }
-    listing(s, ix, prints, &path[0..n])
+    listing(s, ix, lookups, &path[0..n])
 }
 
 // The file of the source that snapshot i is by.
@@ -143,21 +140,20 @@ fn recorded_files(b: &[u8], t: Table) -> [u8; 32]
 fn file_row(
     s: &[u8],
     ix: &[usize; 2470],
-    lookups: &[usize; 96],
+    lookups: &[usize; 129],
     b: &[u8],
     t: Table,
     f: usize,
     at: usize,
-    prints: &[u32; 32],
     recorded: &[u8; 32],
 ) -> [u32; 6]
-    requires { ⌜ (Near t) × (at < 0x1000000000) × (f < t .files → at ≡ placeOf (now b) 0 f) × (Recorded (now b) t (now recorded)) × (now prints ≡ pathPrints (now s) (now ix)) ⌝ }
+    requires { ⌜ (Near t) × (at < 0x1000000000) × (f < t .files → at ≡ placeOf (now b) 0 f) × (Recorded (now b) t (now recorded)) ⌝ }
     ensures { λ r. ⌜ r ≡ rowIn (t .files) 6 (fileRow (now (s .entry)) (now (ix .entry)) (now (lookups .entry)) (now (b .entry)) t) f ⌝ }
 {
     if t.files <= f {
         return [0u32; 6];
     }
-    let e = path_entry(s, ix, prints, b, at);
+    let e = path_entry(s, ix, lookups, b, at);
     let tie = meant::tie(ix, lookups, e);
     let base = meant::base(s, ix, lookups, e);
     let machine = small(base.0);
@@ -179,7 +175,7 @@ fn part_code(p: Part) -> [u32; 2]
 }
 
 // What entry e says of the machine of an id.
-fn owned_code(s: &[u8], ix: &[usize; 2470], lookups: &[usize; 96], e: usize, id: u32) -> [u32; 2]
+fn owned_code(s: &[u8], ix: &[usize; 2470], lookups: &[usize; 129], e: usize, id: u32) -> [u32; 2]
     ensures { λ r. ⌜ r ≡ ownedCode (ownedOf (now (s .entry)) (now (ix .entry)) (now (lookups .entry)) e) (partOf (now (s .entry)) (now (ix .entry)) (now (lookups .entry)) e id) ⌝ }
 {
     match meant::owned_of(s, ix, lookups, e) {
@@ -193,7 +189,7 @@ fn owned_code(s: &[u8], ix: &[usize; 2470], lookups: &[usize; 96], e: usize, id:
 fn source_row(
     s: &[u8],
     ix: &[usize; 2470],
-    lookups: &[usize; 96],
+    lookups: &[usize; 129],
     b: &[u8],
     t: Table,
     j: usize,
@@ -229,7 +225,7 @@ fn store(out: &mut [u32; 324], base: usize, row: &[u32])
 fn put_files(
     s: &[u8],
     ix: &[usize; 2470],
-    lookups: &[usize; 96],
+    lookups: &[usize; 129],
     b: &[u8],
     t: Table,
     out: &mut [u32; 324],
@@ -238,11 +234,10 @@ fn put_files(
     ensures { λ _. ⌜ Put (now (out .entry)) 4 (rows (rowIn (t .files) 6 (fileRow (now (s .entry)) (now (ix .entry)) (now (lookups .entry)) (now (b .entry)) t)) 32) (now (out .exit)) ⌝ }
 {
     let places = sheet::file_places(b, t.files);
-    let prints = named::path_prints(s, ix);
     let recorded = recorded_files(b, t);
     let mut f: usize = 0;
     while f < 32 {
-        let row = file_row(s, ix, lookups, b, t, f, wide(places[f]), &prints, &recorded);
+        let row = file_row(s, ix, lookups, b, t, f, wide(places[f]), &recorded);
         store(out, 4 + 6 * f, &row);
         f += 1;
     }
@@ -252,7 +247,7 @@ fn put_files(
 fn put_sources(
     s: &[u8],
     ix: &[usize; 2470],
-    lookups: &[usize; 96],
+    lookups: &[usize; 129],
     b: &[u8],
     t: Table,
     out: &mut [u32; 324],
@@ -269,7 +264,7 @@ fn put_sources(
 }
 
 // The first numbers of the table: how many files, sources, entries and names there are.
-fn head_row(ix: &[usize; 2470], lookups: &[usize; 96], t: Table) -> [u32; 4]
+fn head_row(ix: &[usize; 2470], lookups: &[usize; 129], t: Table) -> [u32; 4]
     requires { ⌜ Near t ⌝ }
     ensures { λ r. ⌜ r ≡ t .files ∷ t .sources .count ∷ entriesIn (now (ix .entry)) ∷ countIn (now (lookups .entry)) ∷ [] ⌝ }
 {
@@ -289,7 +284,7 @@ fn head_row(ix: &[usize; 2470], lookups: &[usize; 96], t: Table) -> [u32; 4]
 fn fill(
     s: &[u8],
     ix: &[usize; 2470],
-    lookups: &[usize; 96],
+    lookups: &[usize; 129],
     b: &[u8],
     t: Table,
     out: &mut [u32; 324],
@@ -307,7 +302,7 @@ fn fill(
 pub fn gather(
     s: &[u8],
     ix: &[usize; 2470],
-    lookups: &[usize; 96],
+    lookups: &[usize; 129],
     b: &[u8],
     t: &mut [u32; 324],
 ) -> Sheet

@@ -43,7 +43,7 @@ fn table_in(sheet: Sheet) -> Table
 fn draw(
     s: &[u8],
     ix: &[usize; 2470],
-    lookups: &[usize; 96],
+    lookups: &[usize; 129],
     t: &[u32; 324],
     b: &[u8],
     run: Run,
@@ -66,7 +66,7 @@ fn draw(
 fn give(
     s: &[u8],
     ix: &[usize; 2470],
-    lookups: &[usize; 96],
+    lookups: &[usize; 129],
     t: &[u32; 324],
     table: Table,
     links: usize,
@@ -134,7 +134,7 @@ pub fn read(
     ensures gives { λ _. ⌜ now (y .exit) ≡ padded (pos 0) 288 (map (λ l. l .y) (linksIn (now (s .entry)) (now (b .entry)))) ⌝ }
 {
     let mut ix: [usize; 2470] = [0; 2470];
-    let mut lookups: [usize; 96] = [0; 96];
+    let mut lookups: [usize; 129] = [0; 129];
     let manifest = reader::read(s, &mut ix, &mut lookups);
     let sheet = gather::gather(s, &ix, &lookups, b, t);
     let both = checks::refusal(t);

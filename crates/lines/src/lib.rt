@@ -140,7 +140,7 @@ fn put(
 fn entry_link(
     s: &[u8],
     ix: &[usize; 2470],
-    lookups: &[usize; 96],
+    lookups: &[usize; 129],
     t: &[u32; 324],
     i: usize,
     a: &mut [u16; 288],
@@ -169,7 +169,7 @@ fn entry_link(
 fn entry_links(
     s: &[u8],
     ix: &[usize; 2470],
-    lookups: &[usize; 96],
+    lookups: &[usize; 129],
     t: &[u32; 324],
     a: &mut [u16; 288],
     x: &mut [i64; 288],
@@ -240,7 +240,7 @@ fn snapshot_links(
 pub fn links(
     s: &[u8],
     ix: &[usize; 2470],
-    lookups: &[usize; 96],
+    lookups: &[usize; 129],
     t: &[u32; 324],
     machines: &[usize; 32],
     b: &[u8],

@@ -109,7 +109,7 @@ fn manifest(s: &[u8], from: usize, end: usize, m: &mut [u8; 65537]) -> usize
 // One line for a manifest.
 fn tell(name: &[u8], m: &[u8]) {
     let mut ix: [usize; 2470] = [0; 2470];
-    let mut lookups: [usize; 96] = [0; 96];
+    let mut lookups: [usize; 129] = [0; 129];
     let refusal = reader::read(m, &mut ix, &mut lookups);
     io::write_all(1, name);
     io::write_all(1, b" ");

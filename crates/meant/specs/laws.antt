@@ -2,6 +2,7 @@
 pub mod Listings
 pub mod Offsets
 pub mod Parts
+pub mod Declared
 pub mod Links
 pub mod Traced
 pub mod Owners

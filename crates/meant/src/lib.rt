@@ -2,12 +2,9 @@
 ghost use mathlib.Core.Path.{_≡_};
 ghost use mathlib.Core.List.{List};
 ghost use Prim.Native.Nat.{ℕ, _<_};
-ghost use lib.Dec.{eqb};
-ghost use Rattle.text.specs.Reading.{pick};
 ghost use Rattle.index.specs.Index.{entriesIn};
-ghost use Rattle.finds.specs.Finds.{baseAt};
 ghost use Rattle.named.specs.Named.{countIn};
-ghost use Rattle.meant.specs.Meant.{baseOf, ownedOf, partOf, citedAt, offsetAt, relatedTo, linkOf, tiedBy, traceMachineAt, timelineOf};
+ghost use Rattle.meant.specs.Meant.{baseOf, ownedOf, partOf, citedName, citedAt, offsetAt, relatedTo, linkOf, tiedBy, traceMachineAt, timelineOf};
 use manifest::Cited;
 use manifest::Link;
 use manifest::Relation;
@@ -35,14 +32,14 @@ pub fn count(ix: &[usize; 2470]) -> usize
 }
 
 // How many named machines there are; 32 also if there are more.
-pub fn named(lookups: &[usize; 96]) -> usize
+pub fn named(lookups: &[usize; 129]) -> usize
     ensures { λ r. ⌜ r ≡ countIn (now (lookups .entry)) ⌝ }
 {
     named::count(lookups)
 }
 
 // The machine that entry i declares for its file.
-pub fn owned_of(s: &[u8], ix: &[usize; 2470], lookups: &[usize; 96], i: usize) -> Owned
+pub fn owned_of(s: &[u8], ix: &[usize; 2470], lookups: &[usize; 129], i: usize) -> Owned
     ensures { λ r. ⌜ r ≡ ownedOf (now (s .entry)) (now (ix .entry)) (now (lookups .entry)) i ⌝ }
 {
     if index::col(ix, i, 3) != 0 {
@@ -56,7 +53,7 @@ pub fn owned_of(s: &[u8], ix: &[usize; 2470], lookups: &[usize; 96], i: usize) -
 }
 
 // The machine that entry i names for an id.
-pub fn part_of(s: &[u8], ix: &[usize; 2470], lookups: &[usize; 96], i: usize, id: u32) -> Part
+pub fn part_of(s: &[u8], ix: &[usize; 2470], lookups: &[usize; 129], i: usize, id: u32) -> Part
     ensures { λ r. ⌜ r ≡ partOf (now (s .entry)) (now (ix .entry)) (now (lookups .entry)) i id ⌝ }
 {
     let name = finds::name_for(s, ix, i, id);
@@ -68,17 +65,20 @@ pub fn part_of(s: &[u8], ix: &[usize; 2470], lookups: &[usize; 96], i: usize, id
 }
 
 // The base machine of the file that entry i lists.
-pub fn base(s: &[u8], ix: &[usize; 2470], lookups: &[usize; 96], i: usize) -> Machine
+pub fn base(s: &[u8], ix: &[usize; 2470], lookups: &[usize; 129], i: usize) -> Machine
     ensures { λ r. ⌜ r ≡ baseOf (now (s .entry)) (now (ix .entry)) (now (lookups .entry)) i ⌝ }
 {
     let at = finds::base_at(s, ix, i);
     named::number_at(s, lookups, at)
 }
 
-// Where the name of a cited machine stands: at the position of a `machine`; without one, that of the base machine of entry i's file.
+// Where the name of a cited machine stands: that of the base machine of entry i's file, if it is not split, since no other can be cited for it, or if none is cited; else where it is cited.
 fn machine_at(s: &[u8], ix: &[usize; 2470], i: usize, machine: usize) -> usize
-    ensures { λ r. ⌜ r ≡ pick (eqb machine 0) (baseAt (now (s .entry)) (now (ix .entry)) i) machine ⌝ }
+    ensures { λ r. ⌜ r ≡ citedName (now (s .entry)) (now (ix .entry)) i machine ⌝ }
 {
+    if index::col(ix, i, 3) == 0 {
+        return finds::base_at(s, ix, i);
+    }
     if machine == 0 {
         return finds::base_at(s, ix, i);
     }
@@ -89,7 +89,7 @@ fn machine_at(s: &[u8], ix: &[usize; 2470], i: usize, machine: usize) -> usize
 fn cited_at(
     s: &[u8],
     ix: &[usize; 2470],
-    lookups: &[usize; 96],
+    lookups: &[usize; 129],
     i: usize,
     clock: usize,
     machine: usize,
@@ -122,7 +122,7 @@ fn offset_at(s: &[u8], p: usize) -> i64
 }
 
 // How entry i relates its file to the file of entry e.
-fn related_to(s: &[u8], ix: &[usize; 2470], lookups: &[usize; 96], i: usize, e: usize) -> Link
+fn related_to(s: &[u8], ix: &[usize; 2470], lookups: &[usize; 129], i: usize, e: usize) -> Link
     requires { ⌜ (i < 32) × (e < 32) ⌝ }
     ensures { λ r. ⌜ r ≡ relatedTo (now (s .entry)) (now (ix .entry)) (now (lookups .entry)) i e ⌝ }
 {
@@ -142,7 +142,7 @@ fn related_to(s: &[u8], ix: &[usize; 2470], lookups: &[usize; 96], i: usize, e: 
 }
 
 // How entry i relates its file's clock.
-pub fn link(s: &[u8], ix: &[usize; 2470], lookups: &[usize; 96], i: usize) -> Link
+pub fn link(s: &[u8], ix: &[usize; 2470], lookups: &[usize; 129], i: usize) -> Link
     ensures { λ r. ⌜ r ≡ linkOf (now (s .entry)) (now (ix .entry)) (now (lookups .entry)) i ⌝ }
 {
     if index::col(ix, i, 4) == 0 {
@@ -162,7 +162,7 @@ pub fn link(s: &[u8], ix: &[usize; 2470], lookups: &[usize; 96], i: usize) -> Li
 }
 
 // How entry i ties its file's clocks: 0 not at all, 1 by a clock that it names, 2 by the private one.
-pub fn tie(ix: &[usize; 2470], lookups: &[usize; 96], i: usize) -> u32
+pub fn tie(ix: &[usize; 2470], lookups: &[usize; 129], i: usize) -> u32
     ensures { λ r. ⌜ r ≡ tiedBy (now (ix .entry)) (now (lookups .entry)) i ⌝ }
 {
     if index::col(ix, i, 4) == 0 {
@@ -182,33 +182,32 @@ pub fn tie(ix: &[usize; 2470], lookups: &[usize; 96], i: usize) -> u32
 }
 
 // Where the name of trace time's machine stands; 0 for the host.
-fn trace_machine_at(s: &[u8], ix: &[usize; 2470]) -> usize
-    ensures { λ r. ⌜ ((lookups : List ℕ) → r ≡ traceMachineAt (now (s .entry)) (now (ix .entry)) lookups) ⌝ }
+fn trace_machine_at(s: &[u8], ix: &[usize; 2470], lookups: &[usize; 129]) -> usize
+    ensures { λ r. ⌜ r ≡ traceMachineAt (now (s .entry)) (now (ix .entry)) (now (lookups .entry)) ⌝ }
 {
     let machine = ix[4];
     if machine != 0 {
         return machine;
     }
-    let path = ix[3];
-    if path == 0 {
+    let cited = lookups[128];
+    if cited == 0 {
         return 0;
     }
-    let e = finds::entry_with(s, ix, path);
-    if e < 32 {
-        return finds::base_at(s, ix, e);
+    if 32 < cited {
+        return 0;
     }
-    0
+    finds::base_at(s, ix, cited - 1)
 }
 
 // What `trace_time` says.
-pub fn timeline(s: &[u8], ix: &[usize; 2470], lookups: &[usize; 96]) -> Timeline
+pub fn timeline(s: &[u8], ix: &[usize; 2470], lookups: &[usize; 129]) -> Timeline
     ensures { λ r. ⌜ r ≡ timelineOf (now (s .entry)) (now (ix .entry)) (now (lookups .entry)) ⌝ }
 {
     if ix[1] == 0 {
         return Timeline::Unset;
     }
     let domain = outline::domain(s, ix[2]);
-    let at = trace_machine_at(s, ix);
+    let at = trace_machine_at(s, ix, lookups);
     let whose = named::number_at(s, lookups, at);
     Timeline::Set(domain, whose)
 }

@@ -2,7 +2,7 @@
 use mathlib.Core.Bool.{Bool, not, _&&_}
 use mathlib.Core.List.{List, [], _∷_, _++_, map}
 use Prim.Native.Nat.{ℕ, _+_, _-_}
-use lib.Dec.{eqb}
+use lib.Dec.{eqb, ltb}
 use lib.ListN.{length, getD, take, replicate}
 use Rattle.text.specs.Reading.{Text, pick}
 use Rattle.json.specs.Tree.{same}
@@ -52,9 +52,13 @@ printTable s ix = map (namePrint s) (nameTable s ix)
 
 -- ---- what a table tells: 32 positions of names, then a print for each. Both are told of any table; theorems `count-is`, `number-is` say it of the manifest's
 
+-- the first of the 32 places at which the position p stands; 32 if it stands at none
+unfoldable pub standsAt : List ℕ → ℕ → ℕ
+standsAt table p = firstOr 32 (λ q. eqb q p) (take 32 table) 0
+
 -- how many names it holds: up to the first 0
 unfoldable pub countIn : List ℕ → ℕ
-countIn table = firstOr 32 (λ q. eqb q 0) (take 32 table) 0
+countIn table = standsAt table 0
 
 -- a name stands at q, and it is the text at p
 unfoldable pub isCalled : Text → ℕ → ℕ → Bool
@@ -64,6 +68,10 @@ isCalled s p q = not (eqb q 0) && same (textAt s p) (textAt s q)
 unfoldable pub isNamed : Text → List ℕ → ℕ → ℕ → Bool
 isNamed s table p k = eqb (getD table (32 + k) 0) (printAt s p) && isCalled s p (getD table k 0)
 
--- the number of the machine whose name stands at p: the host's for position 0, and for a name that the table does not hold
+-- the number of the machine whose name is the text at p, by the prints and texts of the table: from 1 on, 0 for a name that it does not hold
+unfoldable pub numberBy : Text → List ℕ → ℕ → ℕ
+numberBy s table p = firstOr 0 (isNamed s table p) (listed (λ k. k) 0 32) 1
+
+-- the number of the machine whose name stands at p: the host's for position 0; by the place of p, if the name stands in the table as it stands here, else by print and text
 unfoldable pub numberAt : Text → List ℕ → ℕ → Machine
-numberAt s table p = record { 0 = pick (eqb p 0) 0 (firstOr 0 (isNamed s table p) (listed (λ k. k) 0 32) 1) }
+numberAt s table p = record { 0 = pick (eqb p 0) 0 (pick (ltb (standsAt table p) 32) (standsAt table p + 1) (numberBy s table p)) }

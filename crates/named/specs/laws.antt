@@ -3,8 +3,10 @@ pub mod Texts
 pub mod Empty
 pub mod Firsts
 pub mod Prints
+pub mod Walks
 pub mod Tables
 pub mod Kept
 pub mod Held
 pub mod Filled
+pub mod Once
 pub mod Meant

@@ -3,14 +3,16 @@ ghost use mathlib.Core.Path.{_≡_};
 ghost use Prim.Native.Nat.{_≤_, _<_};
 ghost use lib.ListN.{length};
 ghost use Rattle.json.specs.Tree.{same};
-ghost use Rattle.text.specs.Reading.{part};
+ghost use Rattle.text.specs.Reading.{peek, part};
 ghost use Rattle.text.specs.Strings.{utf8};
+ghost use Rattle.text.specs.laws.Plain.{own};
 ghost use Rattle.index.specs.Index.{textAt};
-ghost use Rattle.named.specs.Named.{place, declaredAt, nameTable, printTable, countIn, isCalled, numberAt};
-ghost use Rattle.named.specs.Prints.{step, printFrom, printAt, pathPrints};
+ghost use Rattle.named.specs.Named.{place, declaredAt, nameTable, printTable, standsAt, countIn, isCalled, numberBy, numberAt};
+ghost use Rattle.named.specs.Prints.{step, printFrom, printAt};
 ghost use Rattle.named.specs.laws.Held.{Added};
 ghost use Rattle.named.specs.laws.Kept.{Printed, Place};
 ghost use Rattle.named.specs.laws.Filled.{machineAt};
+ghost use Rattle.named.specs.laws.Walks.{Stepped, Odd};
 
 // How many names the table holds so far, and at which place the next is looked for first: most entries name their machines in one order.
 struct Tally {
@@ -48,14 +50,21 @@ fn wide(print: u32) -> usize
 }
 
 // How many names a table holds.
-pub fn count(table: &[usize; 96]) -> usize
+pub fn count(table: &[usize; 129]) -> usize
     ensures { λ r. ⌜ r ≡ countIn (now (table .entry)) ⌝ }
+{
+    stands_at(table, 0)
+}
+
+// At which of its 32 places a table of names has the position p; 32 if at none.
+fn stands_at(table: &[usize; 129], p: usize) -> usize
+    ensures { λ r. ⌜ r ≡ standsAt (now (table .entry)) p ⌝ }
 {
     // (a slice tells its length)
     let held: &[usize] = table;
     let mut k: usize = 0;
     while k < 32 {
-        if held[k] == 0 {
+        if held[k] == p {
             return k;
         }
         k += 1;
@@ -63,13 +72,24 @@ pub fn count(table: &[usize; 96]) -> usize
     32
 }
 
-// The number of the machine whose name stands at p; 0, which is the host's, for position 0 and for a name that the table does not hold.
-pub fn number_at(s: &[u8], table: &[usize; 96], p: usize) -> numbers::Machine
+// The number of the machine whose name stands at p; 0, which is the host's, for position 0 and for a name that the table does not hold. A name that the table has from p itself is not read.
+pub fn number_at(s: &[u8], table: &[usize; 129], p: usize) -> numbers::Machine
     ensures { λ r. ⌜ r ≡ numberAt (now (s .entry)) (now (table .entry)) p ⌝ }
 {
     if p == 0 {
         return numbers::Machine(0);
     }
+    let k = stands_at(table, p);
+    if k < 32 {
+        return numbers::Machine((k + 1) as u8);
+    }
+    numbers::Machine(number_by(s, table, p))
+}
+
+// The number of the machine whose name is the text at p, by the prints and texts of the table; 0 for a name that it does not hold.
+fn number_by(s: &[u8], table: &[usize; 129], p: usize) -> u8
+    ensures { λ r. ⌜ r ≡ numberBy (now (s .entry)) (now (table .entry)) p ⌝ }
+{
     let print = print_at(s, p);
     let wanted = wide(print);
     let held: &[usize] = table;
@@ -77,12 +97,12 @@ pub fn number_at(s: &[u8], table: &[usize; 96], p: usize) -> numbers::Machine
     while k < 32 {
         if held[32 + k] == wanted {
             if is_called(s, p, print, held[k]) {
-                return numbers::Machine((k + 1) as u8);
+                return (k + 1) as u8;
             }
         }
         k += 1;
     }
-    numbers::Machine(0)
+    0
 }
 
 // A name stands at q, and it is the text at p, whose print is known: 0 tells an empty text.
@@ -157,7 +177,7 @@ fn add(s: &[u8], p: usize, names: &mut [usize; 32], prints: &mut [u32; 32], t: T
         prints[n] = print_at(s, p);
         return Tally {
             held: n + 1,
-            next: 0,
+            next: n + 1,
         };
     }
     t
@@ -262,40 +282,120 @@ pub fn print_of(t: &[u8]) -> u32
     print_bytes(t, 0, t.len(), 0)
 }
 
-// The print of the text at p: 0 of an empty text alone. Bytes that stand for themselves are taken in a row.
-pub fn print_at(s: &[u8], p: usize) -> u32
-    ensures { λ r. ⌜ r ≡ printAt (now (s .entry)) p ⌝ }
+// ---- the length and the print of a text, in one walk
+
+// The length of a text, and its print.
+pub struct Measure {
+    pub length: usize,
+    pub print: u32,
+}
+
+// How far a walk over a string has come, and the length and the print of what it has passed.
+struct Walk {
+    at: usize,
+    length: usize,
+    print: u32,
+}
+
+// A plain byte stands at a position.
+fn plain_at(s: &[u8], at: usize) -> bool
+    ensures { λ r. ⌜ r ≡ own (peek (now (s .entry)) at) ⌝ }
 {
-    if text::byte(s, p) != 34 {
-        return 0;
-    }
-    let mut i = p + 1;
-    let mut print: u32 = 0;
-    loop {
-        let k = text::past_raw(s, i);
-        print = print_bytes(s, i, k, print);
-        if text::byte(s, k) == 34 {
-            return print;
-        }
-        match text::character(s, k) {
-            text::Code::Of(v, j) => {
-                print = with_code(print, v);
-                i = j;
-            }
-            text::Code::No(_) => return 0,
-        }
+    if at < s.len() {
+        text::plain(s[at])
+    } else {
+        false
     }
 }
 
-// The prints of the paths of entries 0 to 31; where there is no path, of the text at 0.
-pub fn path_prints(s: &[u8], ix: &[usize; 2470]) -> [u32; 32]
-    ensures { λ r. ⌜ r ≡ pathPrints (now (s .entry)) (now (ix .entry)) ⌝ }
+// A walk with one character more; as it was where none stands, or a quote. Escapes of a letter and plain bytes are told first, since they cost least.
+fn walk_on(s: &[u8], w: Walk) -> Walk
+    requires { ⌜ (w .at ≤ length (now s)) × (w .length ≤ w .at) ⌝ }
+    ensures { λ r. ⌜ Stepped (now (s .entry)) (w .at) (w .length) (w .print) (r .at) (r .length) (r .print) ⌝ }
 {
-    let mut prints: [u32; 32] = [0; 32];
-    let mut i: usize = 0;
-    while i < 32 {
-        prints[i] = print_at(s, index::col(ix, i, 0));
-        i += 1;
+    let short = text::short(s, w.at);
+    if 0 < short {
+        let print = with_byte(w.print, short);
+        return Walk {
+            at: w.at + 2,
+            length: w.length + 1,
+            print,
+        };
     }
-    prints
+    if plain_at(s, w.at) {
+        let print = with_byte(w.print, text::byte(s, w.at));
+        return Walk {
+            at: w.at + 1,
+            length: w.length + 1,
+            print,
+        };
+    }
+    walk_odd(s, w)
+}
+
+// The same where no plain byte and no escape of a letter stands.
+fn walk_odd(s: &[u8], w: Walk) -> Walk
+    requires { ⌜ (w .at ≤ length (now s)) × (w .length ≤ w .at) × Odd (now s) (w .at) ⌝ }
+    ensures { λ r. ⌜ Stepped (now (s .entry)) (w .at) (w .length) (w .print) (r .at) (r .length) (r .print) ⌝ }
+{
+    let long = text::long(s, w.at);
+    if 0 < long {
+        let v = long / 16;
+        let print = with_code(w.print, v);
+        return Walk {
+            at: w.at + (long % 16) as usize,
+            length: w.length + values::width(v),
+            print,
+        };
+    }
+    let n = text::several(s, w.at);
+    let print = print_bytes(s, w.at, w.at + n, w.print);
+    Walk {
+        at: w.at + n,
+        length: w.length + n,
+        print,
+    }
+}
+
+// The length and the print of the text at p. The bytes that stand for themselves up to the first escape are taken in a row, the rest character by character.
+pub fn measure_at(s: &[u8], p: usize) -> Measure
+    ensures { λ r. ⌜ (r .length ≡ length (textAt (now (s .entry)) p)) × (r .print ≡ printAt (now (s .entry)) p) ⌝ }
+{
+    if text::byte(s, p) != 34 {
+        return Measure {
+            length: 0,
+            print: 0,
+        };
+    }
+    let first = text::past_raw(s, p + 1);
+    let print = print_bytes(s, p + 1, first, 0);
+    let mut w = Walk {
+        at: first,
+        length: first - p - 1,
+        print,
+    };
+    loop {
+        if text::byte(s, w.at) == 34 {
+            return Measure {
+                length: w.length,
+                print: w.print,
+            };
+        }
+        let r = walk_on(s, w);
+        if r.at == w.at {
+            return Measure {
+                length: 0,
+                print: 0,
+            };
+        }
+        w = r;
+    }
+}
+
+// The print of the text at p: 0 of an empty text alone.
+pub fn print_at(s: &[u8], p: usize) -> u32
+    ensures { λ r. ⌜ r ≡ printAt (now (s .entry)) p ⌝ }
+{
+    let m = measure_at(s, p);
+    m.print
 }

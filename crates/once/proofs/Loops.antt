@@ -1,8 +1,8 @@
 -- A rule is judged by a loop over the entries, whichever rule it is. Assumes nothing.
 use mathlib.Core.Path.{_≡_, refl, sym, ap, _∙_}
-use mathlib.Core.Bool.{Bool, true, false}
+use mathlib.Core.Bool.{Bool, true, false, _||_, or-false}
 use mathlib.Core.List.{List}
-use Prim.Native.Nat.{ℕ, zero, suc, _+_, _≤_, _<_}
+use Prim.Native.Nat.{ℕ, suc, _+_, _≤_, _<_}
 use native.Mathlib.Omega.{arith}
 use Rattle.text.specs.Reading.{Text}
 use Rattle.manifest.specs.Rules.{Rule, applies}
@@ -32,15 +32,26 @@ module _ (r : Rule) (s : Text) (ix : List ℕ) where
             let e : suc i ≡ i + 1 = omega arith in
             inv ∙ entry-on r s ix i (omega arith) (sym eb ∙ f) ∙ ap (fromEntry r s ix) e
 
-  -- it applies if it applies in one of the entries, whichever
-  pub applies-in : r .outside (manifestOf s ix) ≡ false → (i : ℕ) → i < entriesIn ix → inEntry r s ix i ≡ true → applies r (manifestOf s ix) ≡ true
-  applies-in o i h e = applies-within r s ix o ∙ back i (entry-found r s ix i h e) h
+  -- a rule that is asked of all entries: e tells whether it applied before those from number i on
+  entry-turn : (i : ℕ) → i < entriesIn ix → fromEntry r s ix i ≡ (inEntry r s ix i || fromEntry r s ix (suc i))
+  entry-turn i h = go (inEntry r s ix i) refl
     where
-      -- from number i on, so from number 0 on
-      back : (i : ℕ) → fromEntry r s ix i ≡ true → i < entriesIn ix → fromEntry r s ix 0 ≡ true
-      back zero f g = f
-      back (suc j) f g = back j (go (inEntry r s ix j) refl) (omega arith)
-        where
-          go : (b : Bool) → inEntry r s ix j ≡ b → fromEntry r s ix j ≡ true
-          go true e = entry-found r s ix j (omega arith) e
-          go false e = entry-on r s ix j (omega arith) e ∙ f
+      go : (b : Bool) → inEntry r s ix i ≡ b → fromEntry r s ix i ≡ (b || fromEntry r s ix (suc i))
+      go true e = entry-found r s ix i h e
+      go false e = entry-on r s ix i h e
+
+  module _ {n i : ℕ} (e : Bool) (en : n ≡ entriesIn ix) (inv : applies r (manifestOf s ix) ≡ (e || fromEntry r s ix i)) where
+    pub all-done : n ≤ i → e ≡ applies r (manifestOf s ix)
+    all-done h = sym (inv ∙ ap (λ (b : Bool). e || b) (entry-past r s ix i (omega arith)) ∙ or-false e)
+
+    pub all-on : i < n → {a d : Bool} → a ≡ inEntry r s ix i → d ≡ (e || a) → applies r (manifestOf s ix) ≡ (d || fromEntry r s ix (i + 1))
+    all-on h {a} ea ed =
+        let w : suc i ≡ i + 1 = omega arith in
+        inv ∙ ap (λ (b : Bool). e || b) (entry-turn i (omega arith))
+        ∙ (λ j. e || (sym ea j || fromEntry r s ix (w j)))
+        ∙ or-moves e a (fromEntry r s ix (i + 1))
+        ∙ ap (λ (b : Bool). b || fromEntry r s ix (i + 1)) (sym ed)
+      where
+        or-moves : (a b c : Bool) → (a || (b || c)) ≡ ((a || b) || c)
+        or-moves true b c = refl
+        or-moves false b c = refl

@@ -1,4 +1,4 @@
--- 15: an entry has the path of an earlier one, or an id twice. Ids that are in range are compared as numbers of a table. Assumes nothing.
+-- 15: an entry has an id twice. Ids that are in range are compared as numbers of a table. Assumes nothing.
 use mathlib.Core.Path.{_≡_, refl, sym, ap, subst, _∙_}
 use mathlib.Core.Bool.{Bool, true, false, _||_, true≢false, or-true, or-false}
 use mathlib.Core.List.{List, [], _∷_, _++_, append-nil, append-assoc}
@@ -16,115 +16,18 @@ use mir.Val.{ofZ, toZ, SFits}
 use mir.Facts.{toZ-ofZ}
 use borrow.Author.Tests.{eq-eqb, ne-eqb, ltb-false}
 use Rattle.text.specs.Reading.{Text, pick}
-use Rattle.json.specs.Tree.{same}
-use Rattle.values.specs.Strings.{sameTexts}
 use Rattle.values.specs.Integer.{integerAt}
 use Rattle.values.specs.declared.Integer.{Integer}
 use Rattle.values.specs.declared.Integer.the-variants.{In, Below, Above, None}
-use Rattle.manifest.specs.View.{Cell, one}
-use Rattle.manifest.specs.Rows.{Entry, ids, the, holds, any, flat, entries}
-use Rattle.manifest.specs.Rules.{no-id, same-id, twice-in, has-path, refusal-14-id-out-of-range, refusal-15-path-or-id-twice}
+use Rattle.manifest.specs.View.{Cell}
+use Rattle.manifest.specs.Rows.{ids, the, holds, any, flat}
+use Rattle.manifest.specs.Rules.{no-id, same-id, twice-in, refusal-14-id-out-of-range}
 use Rattle.manifest.specs.laws.Bools.{halves}
-use Rattle.index.specs.Index.{colOf, itemOf, entriesIn, itemsIn, textAt, textCell, idCell, listed, entryBy, entryAt, manifestOf}
-use Rattle.index.specs.laws.Entries.{from, any-past, any-found, any-on, entryCell, entries-are}
-use Rattle.once.specs.laws.Parts.{inEntry, idsFrom, pathBefore, idOf, idsIn, Numbered, Told}
-use Rattle.named.specs.Prints.{printAt}
-use Rattle.named.specs.laws.Prints.{other-print, same-none, same-some}
-use Rattle.once.proofs.Loops.{applies-in}
-use Rattle.once.proofs.Cells.{at-none, at-some}
+use Rattle.index.specs.Index.{colOf, itemOf, itemsIn, idCell, entryAt}
+use Rattle.once.specs.Once.{twice-rule}
+use Rattle.once.specs.laws.Parts.{inEntry, idsFrom, idOf, idsIn, Numbered}
 use Rattle.once.proofs.Ids.{Out-of-64, below, above, id-none, id-in, id-out, id-wrong}
 use Rattle.once.proofs.OutOfRange.{ids-are, ids-past, ids-here, ids-none, ids-found, ids-on, range-start}
-
--- ---- paths
-
--- a path stands at q or not
-module _ (s : Text) (p q : ℕ) where
-  pub path-none : q ≡ 0 → false ≡ holds (same (textAt s p)) (textCell s q)
-  unfolding holds
-  path-none h = sym (ap (holds (same (textAt s p))) (at-none q (one (textAt s q)) h))
-
-  pub path-some : (q ≡ 0 → ⊥) → {b : Bool} → b ≡ same (textAt s p) (textAt s q) → b ≡ holds (same (textAt s p)) (textCell s q)
-  unfolding holds
-  path-some h e = e ∙ sym (ap (holds (same (textAt s p))) (at-some q (one (textAt s q)) h))
-
--- of texts with one print, both are empty or both are strings; with different prints they differ
-module _ (s : Text) (p q : ℕ) {print : ℕ} (its-print : print ≡ printAt s p) where
-  pub path-empty : (q ≡ 0 → ⊥) → print ≡ printAt s q → print ≡ 0 → true ≡ holds (same (textAt s p)) (textCell s q)
-  path-empty h e z = path-some s p q h (same-none s p q its-print e z)
-
-  pub path-string : (q ≡ 0 → ⊥) → (print ≡ 0 → ⊥) → {b : Bool} → b ≡ sameTexts s q p → b ≡ holds (same (textAt s p)) (textCell s q)
-  path-string h z f = path-some s p q h (same-some s p q its-print z f)
-
-  pub path-other : {other : ℕ} → other ≡ printAt s q → (other ≡ print → ⊥) → false ≡ holds (same (textAt s p)) (textCell s q)
-  path-other e n = go (ℕ-discrete q 0)
-    where
-      go : Dec (q ≡ 0) → false ≡ holds (same (textAt s p)) (textCell s q)
-      go (yes h) = path-none s p q h
-      go (no h) = path-some s p q h (sym (other-print s p q its-print e n))
-
--- ---- the number of entries
-
-few-entries : (ix : List ℕ) → entriesIn ix ≤ 32
-unfolding entriesIn pick
-few-entries ix = go (eqb (getD ix 0 0) 0)
-  where
-    go : (b : Bool) → pick b 0 (min 32 (getD ix 5 0)) ≤ 32
-    go true = omega arith
-    go false = min-le-left 32 _
-
-module _ (s : Text) (ix : List ℕ) where
-  pub entries-few : {n : ℕ} → n ≡ entriesIn ix → n ≤ 32
-  entries-few e = omega (arith, few-entries ix)
-
--- ---- the entries before an entry
-
-take-listed : {A : Type 0} (f : ℕ → A) (j i n : ℕ) → i ≤ n → take i (listed f j n) ≡ listed f j i
-unfolding listed
-take-listed f j zero n h = refl
-take-listed f j (suc i) zero h = absurd (omega arith)
-take-listed f j (suc i) (suc n) h = ap (λ (l : List _). f j ∷ l) (take-listed f (suc j) i n (omega arith))
-
--- the entries before entry i
-before : (s : Text) (ix : List ℕ) (i : ℕ) → i < entriesIn ix → take i (entries (manifestOf s ix)) ≡ from (entryCell s ix) i 0
-unfolding from
-before s ix i h =
-    let a : i ≤ entriesIn ix - 0 = omega arith in
-    let b : i ≡ i - 0 = omega arith in
-    ap (take i) (entries-are s ix) ∙ take-listed (entryCell s ix) 0 i (entriesIn ix - 0) a ∙ ap (listed (entryCell s ix) 0) b
-
--- the entries from number j on, of those before entry i
-module _ (s : Text) (ix : List ℕ) (i : ℕ) where
-  -- an entry with the text at p as its path
-  abbrev has : ℕ → Cell Entry → Bool
-  has p = holds (has-path (textAt s p))
-
-  module _ {p : ℕ} (ep : p ≡ colOf ix i 0) where
-    pub before-none : p ≡ 0 → false ≡ pathBefore s ix i
-    unfolding pathBefore entryAt entryBy holds
-    before-none h = sym (ap (holds (λ (t : Text). any (holds (has-path t)) (take i (entries (manifestOf s ix))))) (at-none (colOf ix i 0) (one (textAt s (colOf ix i 0))) (sym ep ∙ h)))
-
-    pub before-start : (p ≡ 0 → ⊥) → i < entriesIn ix → pathBefore s ix i ≡ any (has p) (from (entryCell s ix) i 0)
-    unfolding pathBefore entryAt entryBy holds
-    before-start h l =
-        ap (holds (λ (t : Text). any (holds (has-path t)) (take i (entries (manifestOf s ix))))) (at-some (colOf ix i 0) (one (textAt s (colOf ix i 0))) (λ z. h (ep ∙ z)))
-        ∙ (λ k. any (has (sym ep k)) (before s ix i l k))
-
-  module _ (p : ℕ) {j : ℕ} (inv : pathBefore s ix i ≡ any (has p) (from (entryCell s ix) i j)) where
-    pub before-past : i ≤ j → false ≡ pathBefore s ix i
-    before-past h = sym (inv ∙ any-past (entryCell s ix) i (has p) j h)
-
-    module _ (h : j < i) {q : ℕ} (eq : q ≡ colOf ix j 0) {b : Bool} (eb : b ≡ holds (same (textAt s p)) (textCell s q)) where
-      is-here : has p (entryCell s ix j) ≡ b
-      unfolding entryAt entryBy holds
-      is-here = ap (λ (x : ℕ). holds (same (textAt s p)) (textCell s x)) (sym eq) ∙ sym eb
-
-      pub before-found : b ≡ true → true ≡ pathBefore s ix i
-      before-found e = sym (inv ∙ any-found (entryCell s ix) i (has p) j h (is-here ∙ e))
-
-      pub before-on : b ≡ false → pathBefore s ix i ≡ any (has p) (from (entryCell s ix) i (j + 1))
-      before-on e =
-          let z : suc j ≡ j + 1 = omega arith in
-          inv ∙ any-on (entryCell s ix) i (has p) j h (is-here ∙ e) ∙ ap (λ (k : ℕ). any (has p) (from (entryCell s ix) i k)) z
 
 -- ---- an id as a number
 
@@ -431,45 +334,20 @@ module _ (table : List ℕ) {n : ℕ} (long : length table ≡ 32) (few : n ≤ 
     unfolding idsIn
     rises-once = once-each n 0 (omega arith)
 
--- ---- 15 in entry i, and what is known of the ids of all
+-- ---- 15 in entry i
 
 module _ (s : Text) (ix : List ℕ) where
-  within-15 : (i : ℕ) → inEntry refusal-15-path-or-id-twice s ix i ≡ (pathBefore s ix i || twice-in (ids (entryAt s ix i)))
-  unfolding refusal-15-path-or-id-twice holds pathBefore
+  pub within-15 : (i : ℕ) → twice-in (ids (entryAt s ix i)) ≡ inEntry (twice-rule false) s ix i
+  unfolding twice-rule holds
   within-15 i = refl
-
-  -- no id stands twice: the path decides
-  pub path-decides : {n i : ℕ} {a : Bool} → Told s ix n false → i < n → a ≡ pathBefore s ix i → a ≡ inEntry refusal-15-path-or-id-twice s ix i
-  path-decides {n} {i} t h e = e ∙ sym (or-false (pathBefore s ix i)) ∙ ap (λ (b : Bool). pathBefore s ix i || b) (sym (t .none refl i h)) ∙ sym (within-15 i)
-
-  pub told-false : {n : ℕ} {a : Bool} → Told s ix n a → a ≡ false → Told s ix n false
-  told-false {n} t e = subst (Told s ix n) e t
-
-  pub told-none : Told s ix 0 false
-  told-none = record { found = λ e. absurd (true≢false (sym e)); none = λ e j h. absurd (omega arith) }
-
-  -- one entry more: an id stands twice in it, or none
-  module _ {i : ℕ} {t b : Bool} (et : t ≡ twice-in (ids (entryAt s ix i))) where
-    pub told-found : i < entriesIn ix → t ≡ true → b ≡ true → Told s ix (i + 1) b
-    unfolding refusal-15-path-or-id-twice
-    told-found h e f =
-        record {
-          found = λ _. applies-in refusal-15-path-or-id-twice s ix refl i h (within-15 i ∙ ap (λ (c : Bool). pathBefore s ix i || c) (sym et ∙ e) ∙ or-true (pathBefore s ix i));
-          none = λ g. absurd (true≢false (sym f ∙ g));
-        }
-
-    pub told-on : {a : Bool} → Told s ix i a → t ≡ false → b ≡ a → Told s ix (i + 1) b
-    told-on k e f = record { found = λ g. k .found (sym f ∙ g); none = λ g j l. go g j l (decLt j i) }
-      where
-        go : b ≡ false → (j : ℕ) → j < i + 1 → Dec (j < i) → twice-in (ids (entryAt s ix j)) ≡ false
-        go g j l (yes m) = k .none (sym f ∙ g) j m
-        go g j l (no m) =
-            let q : j ≡ i = omega arith in
-            ap (λ (x : ℕ). twice-in (ids (entryAt s ix x))) q ∙ (sym et ∙ e)
-
-  pub told-all : {n i : ℕ} {a : Bool} → n ≡ entriesIn ix → n ≤ i → Told s ix i a → Told s ix (entriesIn ix) a
-  told-all e h k = record { found = k .found; none = λ f j g. k .none f j (omega arith) }
 
   -- the numbers of a table tell it
   pub twice-told : (i : ℕ) (table : List ℕ) {n : ℕ} {b : Bool} → n ≡ itemsIn ix i → ids (entryAt s ix i) ≡ idsIn table (itemsIn ix i) 0 → b ≡ twice-in (idsIn table n 0) → b ≡ twice-in (ids (entryAt s ix i))
   twice-told i table e f g = g ∙ ap (λ (m : ℕ). twice-in (idsIn table m 0)) e ∙ ap twice-in (sym f)
+
+-- an entry more: one in which an id stands twice settles it, another leaves it as it was
+pub noted-twice : (e : Bool) {a d : Bool} → a ≡ true → d ≡ true → d ≡ (e || a)
+noted-twice e ea ed = ed ∙ sym (ap (λ (b : Bool). e || b) ea ∙ or-true e)
+
+pub noted-once : (e : Bool) {a d : Bool} → a ≡ false → d ≡ e → d ≡ (e || a)
+noted-once e ea ed = ed ∙ sym (ap (λ (b : Bool). e || b) ea ∙ or-false e)

@@ -2,26 +2,26 @@
 ghost use mathlib.Core.Path.{_≡_};
 ghost use mathlib.Core.Bool.{true, false};
 ghost use mathlib.Core.List.{[], _∷_};
-ghost use Prim.Native.Nat.{_≤_, _<_};
+ghost use Prim.Native.Nat.{_≤_};
 ghost use lib.ListN.{length};
-ghost use Rattle.json.specs.Tree.{same};
 ghost use Rattle.manifest.specs.Rows.{the, holds, any, ids};
-ghost use Rattle.manifest.specs.Rules.{applies, first, no-id, same-id, twice-in, refusal-14-id-out-of-range, refusal-15-path-or-id-twice, refusal-16-clocks-without-sync-to, refusal-17-machine-without-file, refusal-18-sync-to-without-file};
-ghost use Rattle.index.specs.Index.{entriesIn, itemsIn, textAt, textCell, idCell, entryAt, manifestOf};
-ghost use Rattle.named.specs.Prints.{printAt};
-ghost use Rattle.named.specs.Prints.{pathPrints};
-ghost use Rattle.once.specs.Once.{once-rules};
-ghost use Rattle.once.specs.laws.Parts.{inEntry, pathBefore, idOf, idsIn, Numbered, Told};
+ghost use Rattle.manifest.specs.Rules.{applies, first, no-id, same-id, twice-in, refusal-14-id-out-of-range, refusal-16-clocks-without-sync-to, refusal-17-machine-without-file, refusal-18-sync-to-without-file};
+ghost use Rattle.index.specs.Index.{itemsIn, idCell, entryAt, manifestOf};
+ghost use Rattle.once.specs.Once.{twice-rule, once-rules};
+ghost use Rattle.once.specs.laws.Parts.{inEntry, idOf, idsIn, Numbered};
 
-// The number of the first of these rules that applies to the manifest; 0 if none does.
-pub fn refusal(s: &[u8], ix: &[usize; 2470]) -> u8
-    ensures { λ r. ⌜ r ≡ first once-rules (manifestOf (now (s .entry)) (now (ix .entry))) ⌝ }
+// The number of the first of these rules that applies to the manifest; 0 if none does. `twice` tells whether a path stands in two entries.
+pub fn refusal(s: &[u8], ix: &[usize; 2470], twice: bool) -> u8
+    ensures { λ r. ⌜ r ≡ first (once-rules twice) (manifestOf (now (s .entry)) (now (ix .entry))) ⌝ }
 {
     let found = ids_judged(s, ix);
     if found.out {
         return 14;
     }
-    if refusal_15_path_or_id_twice(s, ix, found.twice) {
+    if twice {
+        return 15;
+    }
+    if found.twice {
         return 15;
     }
     if refusal_16_clocks_without_sync_to(s, ix) {
@@ -46,7 +46,7 @@ struct Found {
 
 // `id` integer outside 0 to 4294967295, in any entry; and an id twice in one `machines`.
 fn ids_judged(s: &[u8], ix: &[usize; 2470]) -> Found
-    ensures { λ r. ⌜ (r .out ≡ applies refusal-14-id-out-of-range (manifestOf (now (s .entry)) (now (ix .entry)))) × (r .out ≡ false → Told (now (s .entry)) (now (ix .entry)) (entriesIn (now (ix .entry))) (r .twice)) ⌝ }
+    ensures { λ r. ⌜ (r .out ≡ applies refusal-14-id-out-of-range (manifestOf (now (s .entry)) (now (ix .entry)))) × (r .out ≡ false → r .twice ≡ applies (twice-rule false) (manifestOf (now (s .entry)) (now (ix .entry)))) ⌝ }
 {
     let n = index::entries(ix);
     let mut twice = false;
@@ -178,64 +178,6 @@ fn number_among(table: &[u64; 32], n: usize, v: u64, from: usize) -> bool
         k += 1;
     }
     false
-}
-
-// ---- 15
-
-// Path in two entries, or id twice in one `machines`; whether an id stands twice is known.
-fn refusal_15_path_or_id_twice(s: &[u8], ix: &[usize; 2470], twice: bool) -> bool
-    requires { ⌜ Told (now s) (now ix) (entriesIn (now ix)) twice ⌝ }
-    ensures { λ r. ⌜ r ≡ applies refusal-15-path-or-id-twice (manifestOf (now (s .entry)) (now (ix .entry))) ⌝ }
-{
-    if twice {
-        return true;
-    }
-    let prints = named::path_prints(s, ix);
-    let n = index::entries(ix);
-    let mut i: usize = 0;
-    while i < n {
-        if path_before(s, ix, i, &prints) {
-            return true;
-        }
-        i += 1;
-    }
-    false
-}
-
-// Entry i has the path of an entry before it. Only paths with one print are compared.
-fn path_before(s: &[u8], ix: &[usize; 2470], i: usize, prints: &[u32; 32]) -> bool
-    requires { ⌜ (i < entriesIn (now ix)) × (now prints ≡ pathPrints (now s) (now ix)) ⌝ }
-    ensures { λ r. ⌜ r ≡ pathBefore (now (s .entry)) (now (ix .entry)) i ⌝ }
-{
-    let p = index::col(ix, i, 0);
-    if p == 0 {
-        return false;
-    }
-    let print = prints[i];
-    let mut j: usize = 0;
-    while j < i {
-        if prints[j] == print {
-            if same_path(s, p, index::col(ix, j, 0), print) {
-                return true;
-            }
-        }
-        j += 1;
-    }
-    false
-}
-
-// A path stands at q, and it is the text at p. The texts have one print; that of an empty text is 0, and of no other.
-fn same_path(s: &[u8], p: usize, q: usize, print: u32) -> bool
-    requires { ⌜ (print ≡ printAt (now s) p) × (print ≡ printAt (now s) q) ⌝ }
-    ensures { λ r. ⌜ r ≡ holds (same (textAt (now (s .entry)) p)) (textCell (now (s .entry)) q) ⌝ }
-{
-    if q == 0 {
-        return false;
-    }
-    if print == 0 {
-        return true;
-    }
-    values::same_texts(s, q, p)
 }
 
 // ---- 16

@@ -1,4 +1,5 @@
 pub mod Cell
+pub mod Rest
 pub mod Queue
 pub mod Table
 pub mod Next

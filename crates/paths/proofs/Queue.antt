@@ -4,20 +4,19 @@ use native.Mathlib.Nat.{le-of-suc-le-suc, not-suc-le-zero, eq-or-lt-of-le}
 use native.Mathlib.Numerals.{add-one}
 use native.Mathlib.Omega.{arith}
 use native.Mathlib.Decide.{ℕ-discrete}
-use mathlib.Core.Bool.{true}
+use mathlib.Core.Bool.{true, false, true≢false}
 use mathlib.Core.Path.{_≡_, refl, sym, ap, _∙_, subst}
 use mathlib.Core.Logic.{_⊎_, inl, inr, ⊎-elim}
 use mathlib.Core.List.{List, [], _∷_}
 use lib.ListN.{length, getD, set, replicate, length-set, length-replicate, getD-replicate}
 use lib.Seq.{getD-set-same, getD-set-other}
 use borrow.Author.Tests.{eq-eqb, ne-eqb}
-use borrow.Author.Count.{below-more}
 use Rattle.paths.specs.Paths.{Net, reach}
 use Rattle.paths.specs.laws.Reach.{reach-step, reach-here}
 use Rattle.paths.specs.laws.Cert.{Closed, Cert}
-use Rattle.paths.specs.laws.Queue.{unset, Waits, State}
-use Rattle.paths.specs.laws.Listed.{Sources, Stands}
+use Rattle.paths.specs.laws.Queue.{unset, Waits, State, Rest}
 use Rattle.paths.specs.laws.Listed.Counts.{leads}
+use Rattle.paths.proofs.Rest.{Live, Gap, gap-start, gap-end, gap-keep, gap-take, before-keep, next-in, next-free}
 
 pub unset-set : (far : ℕ) (ds : List ℕ) (m e v : ℕ) → e < m → e < length ds → getD ds e 0 ≡ far → (v ≡ far → ⊥) → unset far ds m ≡ suc (unset far (set ds e v) m)
 unfolding unset
@@ -31,10 +30,6 @@ unfolding unset
 unset-all far k zero h = refl
 unset-all far zero (suc m) h = absurd (not-suc-le-zero h)
 unset-all far (suc k) (suc m) h = rw (eq-eqb far far refl) (omega (arith, unset-all far k m (le-of-suc-le-suc h)))
-
--- of the clocks in the list the first d have been looked at from the clock c that is expanded
-abbrev pub Seen : Net → List ℕ → List ℕ → ℕ → ℕ → Type 0
-Seen g ls ds c d = (i : ℕ) → i < d → g .adj (getD ls i 0) c ≡ true → getD ds (getD ls i 0) 0 ≤ getD ds c 0 + 1
 
 -- the queue has run out
 pub done : {g : Net} {cap : ℕ} {ds qs : List ℕ} {head tail : ℕ} → State g cap ds qs head tail → tail ≤ head → Cert g (λ i. getD ds i 0)
@@ -169,15 +164,15 @@ module _ {g : Net} {cap : ℕ} {ds qs : List ℕ} {head tail e : ℕ} (s : State
     past = λ i m q. other i (λ z. omega arith) ∙ s .past i m q;
   }
 
+  pub new-near : k′ < g .far
+  new-near = omega (arith, k′-le, room, s .fits)
+
   -- the clock that is expanded is as it was
   pub head-kept : getD qs′ head 0 ≡ getD qs head 0
   head-kept = queued head h
 
   pub dist-kept : getD ds′ (getD qs head 0) 0 ≡ getD ds (getD qs head 0) 0
   dist-kept = keeps (getD qs head 0) (s .known head h)
-
-  pub seen-put : (ls : List ℕ) (d : ℕ) → getD ls d 0 ≡ e → Seen g ls ds (getD qs head 0) d → Seen g ls ds′ (getD qs head 0) (d + 1)
-  seen-put ls d q t = below-more _ d (λ i m b. omega (arith, drops (getD ls i 0), dist-kept, t i m b)) (rw q (λ b. omega (arith, new, dist-kept)))
 
 -- where the search begins
 module _ (g : Net) (cap : ℕ) (fits : g .size < g .far) (big : g .size ≤ cap) (goal-in : g .goal < g .size) where
@@ -247,65 +242,68 @@ tail-few s = omega (arith, s .count)
 pub head-small : {g : Net} {cap : ℕ} {ds qs : List ℕ} {head tail : ℕ} → State g cap ds qs head tail → head < tail → getD ds (getD qs head 0) 0 < tail
 head-small {qs} {head} s h = s .small (getD qs head 0) (s .inside head h) (s .known head h)
 
--- a turn: of the m clocks that count, listed in ls, the first d have been looked at from the clock c at the head of the queue, and k is what such a clock gets
-pub record Turn (g : Net) (cap : ℕ) (ls : List ℕ) (m : ℕ) (ds qs : List ℕ) (head tail c k d : ℕ) : Type 0 where
+-- a turn: of the m clocks without a distance, listed in ls, the first d have been looked at from the clock c at the head of the queue, and k is what such a clock gets from which a pair leads to c; those that stay are the first of the list
+pub record Turn (g : Net) (cap : ℕ) (ls : List ℕ) (m : ℕ) (ds qs : List ℕ) (head tail c k kept d : ℕ) : Type 0 where
   pub state : State g cap ds qs head tail
-  pub listed : Sources g ls m
-  pub upto : d ≤ m
+  pub gap : Gap g cap ds ls kept d m
   pub waits : head < tail
   pub first : getD qs head 0 ≡ c
   pub more : getD ds c 0 + 1 ≡ k
-  pub seen : Seen g ls ds c d
+  pub none : (i : ℕ) → i < kept → g .adj (getD ls i 0) c ≡ false
 
-pub turn-start : {g : Net} {cap : ℕ} {ls : List ℕ} {m : ℕ} {ds qs : List ℕ} {head tail : ℕ} → State g cap ds qs head tail → Sources g ls m → head < tail
-    → Turn g cap ls m ds qs head tail (getD qs head 0) (getD ds (getD qs head 0) 0 + 1) 0
-turn-start s l h = record { state = s; listed = l; upto = zero-le; waits = h; first = refl; more = refl; seen = λ j m b. absurd (omega arith) }
+pub turn-start : {g : Net} {cap : ℕ} {ls : List ℕ} {m : ℕ} {ds qs : List ℕ} {head tail : ℕ} → State g cap ds qs head tail → Rest g cap ds ls m → head < tail
+    → Turn g cap ls m ds qs head tail (getD qs head 0) (getD ds (getD qs head 0) 0 + 1) 0 0
+turn-start s r h = record { state = s; gap = gap-start r; waits = h; first = refl; more = refl; none = λ i l. absurd (omega arith) }
 
-module _ {g : Net} {cap : ℕ} {ls : List ℕ} {m : ℕ} {ds qs : List ℕ} {head tail c k d : ℕ} (s : Turn g cap ls m ds qs head tail c k d) where
+module _ {g : Net} {cap : ℕ} {ls : List ℕ} {m : ℕ} {ds qs : List ℕ} {head tail c k kept d : ℕ} (s : Turn g cap ls m ds qs head tail c k kept d) where
   pub clock-in : c < g .size
   clock-in = rw (s .first) at (s .state .inside head (s .waits))
 
-  -- all have been looked at: from a clock that isn't listed no pair leads to the head
+  -- all have been looked at: a clock from which a pair leads to the head has a distance, since none without one is left
   pub turn-end : m ≤ d → State g cap ds qs (head + 1) tail
-  turn-end e = advance (s .state) (s .waits) (rw (s .first) (λ j l b. looked j b (s .listed .all j l (leads c clock-in b))))
+  turn-end e = advance (s .state) (s .waits) (rw (s .first) (λ j l b. looked j l b (ℕ-discrete (getD ds j 0) (g .far))))
     where
-      looked : (j : ℕ) → g .adj j c ≡ true → Stands ls m j → getD ds j 0 ≤ getD ds c 0 + 1
-      looked j b w = (rw (w .2) at (s .seen (w .0) (omega (arith, w .1)))) b
+      left : (j i : ℕ) → g .adj j c ≡ true → Live kept d m i → getD ls i 0 ≡ j → ⊥
+      left j i b w q = ⊎-elim (λ h. true≢false (sym b ∙ (rw q at (s .none i h)))) (λ h. omega (arith, h .0, h .1)) w
+
+      looked : (j : ℕ) → j < g .size → g .adj j c ≡ true → Dec (getD ds j 0 ≡ g .far) → getD ds j 0 ≤ getD ds c 0 + 1
+      looked j l b (yes f) = let w = s .gap .all j l (leads c clock-in b) f in absurd (left j (w .0) b (w .1) (w .2))
+      looked j l b (no f) = rw (s .first) at (s .state .top (s .waits) j l (omega (arith, s .state .bound j l)))
+
+  pub turn-rest : m ≤ d → Rest g cap ds ls kept
+  turn-rest e = gap-end (s .gap) e
+
+  pub turn-few : m ≤ cap
+  turn-few = omega (arith, s .gap .few, s .state .big)
 
   module _ (l : d < m) where
     pub here-in : getD ls d 0 < g .size
-    here-in = s .listed .below d l
+    here-in = next-in (s .gap) l
 
     pub here-fits : getD ls d 0 < cap
     here-fits = omega (arith, here-in, s .state .big)
 
-    -- no pair leads from the clock to the head, or it has a distance
-    pub turn-skip : (g .adj (getD ls d 0) c ≡ true → getD ds (getD ls d 0) 0 ≡ g .far → ⊥) → Turn g cap ls m ds qs head tail c k (d + 1)
-    turn-skip n = record {
+    -- no pair leads from the clock to the head: it stays
+    pub turn-keep : g .adj (getD ls d 0) c ≡ false → Turn g cap (set ls kept (getD ls d 0)) m ds qs head tail c k (kept + 1) (d + 1)
+    turn-keep n = record {
       state = s .state;
-      listed = s .listed;
-      upto = omega arith;
+      gap = gap-keep (s .gap) l (s .state .big);
       waits = s .waits;
       first = s .first;
       more = s .more;
-      seen = below-more _ d (s .seen) (λ b. near (ℕ-discrete (getD ds (getD ls d 0) 0) (g .far)) b);
+      none = before-keep (s .gap) l (s .state .big) (λ e. g .adj e c ≡ false) (s .none) n;
     }
-      where
-        near : Dec (getD ds (getD ls d 0) 0 ≡ g .far) → g .adj (getD ls d 0) c ≡ true → getD ds (getD ls d 0) 0 ≤ getD ds c 0 + 1
-        near (yes q) b = absurd (n b q)
-        near (no q) b = rw (s .first) at (s .state .top (s .waits) (getD ls d 0) here-in (omega (arith, s .state .bound (getD ls d 0) here-in)))
 
-    module _ (u : getD ds (getD ls d 0) 0 ≡ g .far) where
-      pub turn-room : tail < cap
-      turn-room = omega (arith, room (s .state) (s .waits) here-in u, s .state .big)
+    pub turn-room : tail < cap
+    turn-room = omega (arith, room (s .state) (s .waits) here-in (next-free (s .gap) l), s .state .big)
 
-      pub turn-put : g .adj (getD ls d 0) c ≡ true → Turn g cap ls m (set ds (getD ls d 0) k) (set qs tail (getD ls d 0)) head (tail + 1) c k (d + 1)
-      turn-put a = rw (sym (s .more), sym (s .first)) (record {
-        state = put (s .state) (s .waits) here-in u (rw (s .first) a);
-        listed = s .listed;
-        upto = omega arith;
-        waits = omega (arith, s .waits);
-        first = head-kept (s .state) (s .waits) here-in u;
-        more = ap (λ (j : ℕ). j + 1) (dist-kept (s .state) (s .waits) here-in u);
-        seen = seen-put (s .state) (s .waits) here-in u ls d refl (rw (s .first) (s .seen));
-      })
+    -- one does: it gets a distance
+    pub turn-put : g .adj (getD ls d 0) c ≡ true → Turn g cap ls m (set ds (getD ls d 0) k) (set qs tail (getD ls d 0)) head (tail + 1) c k kept (d + 1)
+    turn-put a = rw (sym (s .more), sym (s .first)) (record {
+      state = put (s .state) (s .waits) here-in (next-free (s .gap) l) (rw (s .first) a);
+      gap = gap-take (s .gap) l _ (new-near (s .state) (s .waits) here-in (next-free (s .gap) l)) (omega (arith, here-fits, s .state .room-d));
+      waits = omega (arith, s .waits);
+      first = head-kept (s .state) (s .waits) here-in (next-free (s .gap) l);
+      more = ap (λ (j : ℕ). j + 1) (dist-kept (s .state) (s .waits) here-in (next-free (s .gap) l));
+      none = rw (s .first) (s .none);
+    })

@@ -8,8 +8,8 @@ ghost use Rattle.numbers.specs.Numbers.{clocks};
 ghost use Rattle.paths.specs.Paths.{next};
 ghost use Rattle.paths.specs.Matrix.{pairOf, isGraph, held, graphOf, distances, nexts, along, traced};
 ghost use Rattle.paths.specs.laws.Graph.{Whole};
-ghost use Rattle.paths.specs.laws.Listed.{Counts, Bare, Sources};
-ghost use Rattle.paths.specs.laws.Queue.{State};
+ghost use Rattle.paths.specs.laws.Listed.{Counts, Bare, Sources, Rising, Others};
+ghost use Rattle.paths.specs.laws.Queue.{State, Rest};
 
 // No path: more than any distance.
 const FAR: u16 = 65535;
@@ -18,6 +18,12 @@ const FAR: u16 = 65535;
 pub struct Found {
     pub dist: [u16; numbers::CLOCKS],
     pub next: [u16; numbers::CLOCKS],
+}
+
+// Where the queue ends, and how many clocks are left without a distance.
+struct Ends {
+    tail: usize,
+    left: usize,
 }
 
 // How the tracing of a path ends: with so many steps, without a path, or in memory that is too short for it.
@@ -105,44 +111,65 @@ fn list_sources(matrix: &[u8], n: usize, target: usize, out: &mut [u16]) -> usiz
     count
 }
 
-// Gives each listed clock that has no distance, and from which a pair leads to the clock at the queue's head, one more than that clock's, and
-// puts it at the queue's end; answers where the queue ends then. The pair is asked for first, since most are not there. Only the contract speaks
-// of the target.
-fn expand(
-    matrix: &[u8],
-    n: usize,
-    target: usize,
-    list: &[u16],
-    count: usize,
-    dist: &mut [u16; numbers::CLOCKS],
-    queue: &mut [u16; numbers::CLOCKS],
-    head: usize,
-    end: usize,
-) -> usize
-    requires { ⌜ Whole (now matrix) n target × Sources (held (now matrix) n target) (now list) count × (length (now list) ≡ clocks) ⌝ }
-    requires { ⌜ (head < end) × State (held (now matrix) n target) clocks (now dist) (now queue) head end ⌝ }
-    ensures { λ r. ⌜ State (held (now (matrix .entry)) n target) clocks (now (dist .exit)) (now (queue .exit)) (head + 1) r ⌝ }
+// Copies the listed clocks other than the target to out, in their order, and answers how many they are.
+fn others(list: &[u16], count: usize, target: usize, out: &mut [u16; numbers::CLOCKS]) -> usize
+    requires { ⌜ (length (now list) ≡ clocks) × (length (now out) ≡ clocks) × (count ≤ clocks) × Rising (now list) count ⌝ }
+    ensures { λ r. ⌜ (length (now (out .exit)) ≡ clocks) × Others (now (list .entry)) count target (now (out .exit)) r ⌝ }
 {
-    let c = queue[head] as usize;
-    let k = dist[c] + 1;
-    let mut tail = end;
+    let mut copied: usize = 0;
     let mut d: usize = 0;
     while d < count {
         let e = list[d] as usize;
         d += 1;
-        if pair(matrix, n, e, c) {
-            if dist[e] == FAR {
-                dist[e] = k;
-                queue[tail] = e as u16;
-                tail += 1;
-            }
+        if e != target {
+            out[copied] = e as u16;
+            copied += 1;
         }
     }
-    tail
+    copied
+}
+
+// Gives each clock of the rest from which a pair leads to the clock at the queue's head one more than that clock's distance, and puts it at the
+// queue's end. The others stay in the rest, moved together, so no clock that has a distance is looked at again. Only the contract speaks of the
+// target.
+fn expand(
+    matrix: &[u8],
+    n: usize,
+    target: usize,
+    rest: &mut [u16; numbers::CLOCKS],
+    left: usize,
+    dist: &mut [u16; numbers::CLOCKS],
+    queue: &mut [u16; numbers::CLOCKS],
+    head: usize,
+    end: usize,
+) -> Ends
+    requires { ⌜ Whole (now matrix) n target × Rest (held (now matrix) n target) clocks (now dist) (now rest) left ⌝ }
+    requires { ⌜ (head < end) × State (held (now matrix) n target) clocks (now dist) (now queue) head end ⌝ }
+    ensures state { λ r. ⌜ State (held (now (matrix .entry)) n target) clocks (now (dist .exit)) (now (queue .exit)) (head + 1) (r .tail) ⌝ }
+    ensures rest { λ r. ⌜ Rest (held (now (matrix .entry)) n target) clocks (now (dist .exit)) (now (rest .exit)) (r .left) ⌝ }
+{
+    let c = queue[head] as usize;
+    let k = dist[c] + 1;
+    let mut tail = end;
+    let mut kept: usize = 0;
+    let mut d: usize = 0;
+    while d < left {
+        let e = rest[d] as usize;
+        d += 1;
+        if pair(matrix, n, e, c) {
+            dist[e] = k;
+            queue[tail] = e as u16;
+            tail += 1;
+        } else {
+            rest[kept] = e as u16;
+            kept += 1;
+        }
+    }
+    Ends { tail, left: kept }
 }
 
 // The distance of each clock, breadth first from the target. The queue holds the clocks that have a distance, in the order in which
-// they got it; each turn looks from which clocks of the list a pair leads to the clock at the queue's head.
+// they got it, and the rest the listed clocks that have none; each turn looks from which of these a pair leads to the clock at the queue's head.
 fn distances(
     matrix: &[u8],
     n: usize,
@@ -158,22 +185,26 @@ fn distances(
         return dist;
     }
     let mut queue = [0u16; numbers::CLOCKS];
+    let mut rest = [0u16; numbers::CLOCKS];
+    let mut left = others(list, count, target, &mut rest);
     dist[target] = 0;
     queue[0] = target as u16;
     let mut head: usize = 0;
     let mut tail: usize = 1;
     while head < tail {
-        tail = expand(
+        let ends = expand(
             matrix,
             n,
             target,
-            list,
-            count,
+            &mut rest,
+            left,
             &mut dist,
             &mut queue,
             head,
             tail,
         );
+        tail = ends.tail;
+        left = ends.left;
         head += 1;
     }
     dist

@@ -1,39 +1,49 @@
 -- The steps of judging 10 to 24 over the index, and what is left in it. Assumes nothing.
-use mathlib.Core.Path.{_≡_, sym, ap, _∙_}
-use mathlib.Core.Bool.{false}
-use mathlib.Core.List.{List, _++_, map}
+use mathlib.Core.Path.{_≡_, sym, ap, subst, _∙_}
+use mathlib.Core.Bool.{Bool, false}
+use mathlib.Core.List.{List, [], _∷_, _++_, map}
 use Prim.Native.Nat.{ℕ}
-use lib.ListN.{replicate}
 use Rattle.text.specs.Reading.{Text}
 use Rattle.manifest.specs.Rows.{Manifest}
 use Rattle.manifest.specs.Rules.{first}
 use Rattle.manifest.specs.Manifest.{refusalOf}
 use Rattle.index.specs.Index.{indexOf, tooMany, manifestOf}
 use Rattle.reader.specs.Reader.{tableOf, lookupsOf}
-use Rattle.reader.specs.laws.Parts.{later-rules, first-rest, first-here, sizes-numbered, once-numbered}
+use Rattle.reader.specs.laws.Parts.{size-rules, twice-rules, later-rules, first-rest, first-here, sizes-numbered, once-numbered}
 use Rattle.reader.specs.laws.Passed.{Passed, index-judged}
-use Rattle.reader.specs.laws.Tables.{zeros, refused-zeros, accepted-index, zeros-cite}
+use Rattle.reader.specs.laws.Tables.{zeros, Facts, refused-zeros, accepted-index}
 use Rattle.named.specs.Named.{nameTable, printTable}
-use Rattle.finds.specs.Finds.{citesOf, fromOne, lookups}
-use Rattle.sizes.specs.Sizes.{sizes-rules}
-use Rattle.once.specs.Once.{once-rules}
+use Rattle.finds.specs.Finds.{fromOne, ofEntries, lookups}
+use Rattle.sizes.specs.Sizes.{broken-paths, sizes-rules}
+use Rattle.sizes.specs.Theorems.{sizes-are}
+use Rattle.once.specs.Once.{path-twice, once-rules}
+use Rattle.once.specs.Theorems.{once-are}
+use Rattle.listed.specs.declared.PathFacts.{PathFacts}
 use Rattle.cited.specs.Cited.{cited-rules}
 
 -- ---- part after part
 
-module _ (m : Manifest) {a : ℕ} (sizes : a ≡ first sizes-rules m) where
-  pub in-sizes : (a ≡ 0 → ⊥) → a ≡ first later-rules m
-  in-sizes h = sizes ∙ sym (first-here sizes-rules _ m sizes-numbered (λ q. h (sizes ∙ q)))
+-- told of the manifest's own paths, `sizes` and `once` judge the rules
+module _ (m : Manifest) {told : Bool} where
+  pub sizes-told : {a : ℕ} → told ≡ broken-paths m → a ≡ first (sizes-rules told) m → a ≡ first size-rules m
+  sizes-told e h = h ∙ ap (λ (b : Bool). first (sizes-rules b) m) e ∙ sizes-are m
 
-  module _ (no-size : a ≡ 0) {b : ℕ} (once : b ≡ first once-rules m) where
-    after-sizes : first later-rules m ≡ first (once-rules ++ cited-rules) m
-    after-sizes = first-rest sizes-rules _ m sizes-numbered (sym sizes ∙ no-size)
+  pub once-told : {a : ℕ} → told ≡ path-twice m → a ≡ first (once-rules told) m → a ≡ first twice-rules m
+  once-told e h = h ∙ ap (λ (b : Bool). first (once-rules b) m) e ∙ once-are m
+
+module _ (m : Manifest) {a : ℕ} (sizes : a ≡ first size-rules m) where
+  pub in-sizes : (a ≡ 0 → ⊥) → a ≡ first later-rules m
+  in-sizes h = sizes ∙ sym (first-here size-rules _ m sizes-numbered (λ q. h (sizes ∙ q)))
+
+  module _ (no-size : a ≡ 0) {b : ℕ} (once : b ≡ first twice-rules m) where
+    after-sizes : first later-rules m ≡ first (twice-rules ++ cited-rules) m
+    after-sizes = first-rest size-rules _ m sizes-numbered (sym sizes ∙ no-size)
 
     pub in-once : (b ≡ 0 → ⊥) → b ≡ first later-rules m
-    in-once h = once ∙ sym (after-sizes ∙ first-here once-rules _ m once-numbered (λ q. h (once ∙ q)))
+    in-once h = once ∙ sym (after-sizes ∙ first-here twice-rules _ m once-numbered (λ q. h (once ∙ q)))
 
     pub in-cited : b ≡ 0 → {d : ℕ} → d ≡ first cited-rules m → d ≡ first later-rules m
-    in-cited no-once cited = cited ∙ sym (after-sizes ∙ first-rest once-rules _ m once-numbered (sym once ∙ no-once))
+    in-cited no-once cited = cited ∙ sym (after-sizes ∙ first-rest twice-rules _ m once-numbered (sym once ∙ no-once))
 
 -- ---- the index
 
@@ -50,10 +60,13 @@ module _ {s : Text} {v : ℕ} (p : Passed s v) (few : tooMany s v ≡ false) {ix
 
 -- ---- what is looked up
 
--- nothing is cited where the table is of zeros
-pub none-cited : (s : Text) → tableOf s ≡ zeros → replicate 32 32 ≡ citesOf s (tableOf s)
-none-cited s e = sym (ap (citesOf s) e ∙ zeros-cite s)
-
-pub lookups-are : (s : Text) {ix cites table : List ℕ} → ix ≡ tableOf s → cites ≡ citesOf s (tableOf s) → table ≡ nameTable s ix ++ (printTable s ix ++ map fromOne cites) → table ≡ lookupsOf s
+pub lookups-are : (s : Text) {ix table : List ℕ} {f : PathFacts} → ix ≡ tableOf s → Facts s (tableOf s) f
+    → table ≡ nameTable s ix ++ (printTable s ix ++ (map fromOne (f .cites) ++ (ofEntries ix (f .prints) ++ (fromOne (f .trace) ∷ [])))) → table ≡ lookupsOf s
 unfolding lookupsOf lookups
-lookups-are s e f g = g ∙ (λ t. nameTable s (e t) ++ (printTable s (e t) ++ map fromOne (f t)))
+lookups-are s {ix} {table} {f} e k g =
+    g ∙ (λ t. nameTable s (e t) ++ (printTable s (e t) ++ (map fromOne (f .cites) ++ (ofEntries (e t) (f .prints) ++ (fromOne (f .trace) ∷ [])))))
+    ∙ (λ t. nameTable s (tableOf s) ++ (printTable s (tableOf s) ++ (map fromOne (k .cites-right t) ++ (k .prints-right t ++ (fromOne (k .trace-right t) ∷ [])))))
+
+-- what is known for an index is known for the table that it is left as
+pub facts-kept : (s : Text) {ix : List ℕ} {f : PathFacts} → ix ≡ tableOf s → Facts s ix f → Facts s (tableOf s) f
+facts-kept s {ix} {f} e k = subst (λ (l : List ℕ). Facts s l f) e k

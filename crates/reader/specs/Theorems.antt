@@ -23,8 +23,8 @@ pub table-accepted : (s : Text) → refusalOf s ≡ 0 → refusal-5-or-later (on
 table-accepted s e = table-refusal s e
 
 -- a refusal leaves zeros in both tables, and so do no bytes
-pub refused-leaves-zeros : (s : Text) → (refusalOf s ≡ 0 → ⊥) → (tableOf s ≡ replicate 2470 0) × (lookupsOf s ≡ replicate 96 0)
+pub refused-leaves-zeros : (s : Text) → (refusalOf s ≡ 0 → ⊥) → (tableOf s ≡ replicate 2470 0) × (lookupsOf s ≡ replicate 129 0)
 refused-leaves-zeros s some = let z : tableOf s ≡ zeros = refused-zeros s refl some in (z, zeros-lookups s z)
 
-pub nothing-leaves-zeros : (s : Text) → length s ≡ 0 → (tableOf s ≡ replicate 2470 0) × (lookupsOf s ≡ replicate 96 0)
+pub nothing-leaves-zeros : (s : Text) → length s ≡ 0 → (tableOf s ≡ replicate 2470 0) × (lookupsOf s ≡ replicate 129 0)
 nothing-leaves-zeros s none = let z : tableOf s ≡ zeros = none-zeros s none in (z, zeros-lookups s z)

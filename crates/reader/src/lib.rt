@@ -3,53 +3,84 @@ ghost use mathlib.Core.Path.{_≡_};
 ghost use Rattle.manifest.specs.Rules.{first};
 ghost use Rattle.manifest.specs.Manifest.{refusalOf};
 ghost use Rattle.index.specs.Index.{manifestOf};
-ghost use Rattle.finds.specs.Finds.{citesOf};
+ghost use lib.ListN.{replicate};
 ghost use Rattle.reader.specs.Reader.{tableOf, lookupsOf};
 ghost use Rattle.reader.specs.laws.Parts.{later-rules};
+ghost use Rattle.reader.specs.laws.Tables.{Facts};
+use cited::Judged;
+use listed::PathFacts;
 
-// Refusals 10 to 24, judged over the index part after part; 0 if none applies, and then `cites` tells which entry each entry cites.
-fn later(s: &[u8], ix: &[usize; 2470], cites: &mut [usize; 32]) -> u8
-    ensures { λ r. ⌜ (r ≡ first later-rules (manifestOf (now (s .entry)) (now (ix .entry)))) × (r ≡ 0 → now (cites .exit) ≡ citesOf (now (s .entry)) (now (ix .entry))) ⌝ }
+// Refusals 10 to 24, judged over the index part after part, and what is known of the paths: `cited` reads each once, and the others are told of them.
+fn later(s: &[u8], ix: &[usize; 2470]) -> Judged
+    ensures { λ r. ⌜ (r .refusal ≡ first later-rules (manifestOf (now (s .entry)) (now (ix .entry)))) × Facts (now (s .entry)) (now (ix .entry)) (r .paths) ⌝ }
 {
-    let size = sizes::refusal(s, ix);
+    let judged = cited::refusal(s, ix);
+    let paths = judged.paths;
+    let size = sizes::refusal(s, ix, paths.broken);
     if size != 0 {
-        return size;
+        return Judged {
+            refusal: size,
+            paths,
+        };
     }
-    let twice = once::refusal(s, ix);
+    let twice = once::refusal(s, ix, paths.twice);
     if twice != 0 {
-        return twice;
+        return Judged {
+            refusal: twice,
+            paths,
+        };
     }
-    cited::refusal(s, ix, cites)
+    judged
 }
 
-// The refusal, the index, and which entry each entry cites; a refusal leaves zeros and nothing cited, and so do no bytes.
-fn table(s: &[u8], ix: &mut [usize; 2470], cites: &mut [usize; 32]) -> u8
-    ensures { λ r. ⌜ (r ≡ refusalOf (now (s .entry))) × (now (ix .exit) ≡ tableOf (now (s .entry))) × (now (cites .exit) ≡ citesOf (now (s .entry)) (tableOf (now (s .entry)))) ⌝ }
+// What is known of the paths of no manifest: nothing is cited.
+fn no_paths() -> PathFacts
+    ensures { λ r. ⌜ (r .cites ≡ replicate 32 32) × (r .trace ≡ 32) ⌝ }
 {
-    let none: [usize; 32] = [32; 32];
-    *cites = none;
-    let refusal = survey::survey(s, ix);
-    if refusal != 0 {
-        return refusal;
+    PathFacts {
+        cites: [32; 32],
+        trace: 32,
+        prints: [0; 32],
+        broken: false,
+        twice: false,
+    }
+}
+
+// The refusal, the index, and what is known of the paths; a refusal leaves zeros and nothing cited, and so do no bytes.
+fn table(s: &[u8], ix: &mut [usize; 2470]) -> Judged
+    ensures { λ r. ⌜ (r .refusal ≡ refusalOf (now (s .entry))) × (now (ix .exit) ≡ tableOf (now (s .entry))) × Facts (now (s .entry)) (tableOf (now (s .entry))) (r .paths) ⌝ }
+{
+    let early = survey::survey(s, ix);
+    if early != 0 {
+        let paths = no_paths();
+        return Judged {
+            refusal: early,
+            paths,
+        };
     }
     if s.len() == 0 {
-        return 0;
+        let paths = no_paths();
+        return Judged { refusal: 0, paths };
     }
-    let rest = later(s, ix, cites);
-    if rest != 0 {
+    let judged = later(s, ix);
+    let refusal = judged.refusal;
+    if refusal != 0 {
         let zeros: [usize; 2470] = [0; 2470];
         *ix = zeros;
-        *cites = none;
+        let paths = no_paths();
+        return Judged { refusal, paths };
     }
-    rest
+    judged
 }
 
 // Reads a manifest: its refusal, 0 if it is accepted. The tables are for the questions above; a refusal leaves zeros.
-pub fn read(s: &[u8], ix: &mut [usize; 2470], lookups: &mut [usize; 96]) -> u8
+pub fn read(s: &[u8], ix: &mut [usize; 2470], lookups: &mut [usize; 129]) -> u8
     ensures { λ r. ⌜ (r ≡ refusalOf (now (s .entry))) × (now (ix .exit) ≡ tableOf (now (s .entry))) × (now (lookups .exit) ≡ lookupsOf (now (s .entry))) ⌝ }
 {
-    let mut cites: [usize; 32] = [32; 32];
-    let refusal = table(s, ix, &mut cites);
-    finds::fill(s, ix, &cites, lookups);
-    refusal
+    let found = table(s, ix);
+    let paths = found.paths;
+    let cites = paths.cites;
+    let prints = paths.prints;
+    finds::fill(s, ix, &cites, &prints, paths.trace, lookups);
+    found.refusal
 }

@@ -8,7 +8,7 @@ use borrow.Author.Tests.{eq-eqb, ne-eqb}
 use Rattle.text.specs.Reading.{Text, pick}
 use Rattle.text.specs.laws.Readers.{pick-true, pick-false}
 use Rattle.manifest.specs.View.{Cell, absent, wrong, many, one}
-use Rattle.manifest.specs.Rows.{Clocks, SyncTo, its-clocks, its-syncs, own-clock, own-machine, syncTo, sync-file, sync-machine, sync-clock, the, holds, any, flat, cited-files, cited-machines, cited-clocks}
+use Rattle.manifest.specs.Rows.{Clocks, SyncTo, its-clocks, its-syncs, own-clock, own-machine, syncTo, sync-machine, sync-clock, the, holds, any, flat, cited-machines, cited-clocks}
 use Rattle.manifest.specs.laws.Lists.{any-append}
 use Rattle.index.specs.Index.{textAt, textCell, at, colOf, syncBy, clocksBy, entryBy, entryAt}
 
@@ -92,10 +92,6 @@ module _ (t : Text → Bool) where
 
     -- what entry i cites
     module _ (ix : List ℕ) (i : ℕ) where
-      pub files-are : any t (cited-files (entryAt s ix i)) ≡ holds t (textCell s (in-sync ix i 8))
-      unfolding entryAt entryBy clocksBy syncBy at
-      files-are = any-synced sync-file (syncBy s (colOf ix i)) (clocksBy s (colOf ix i)) (colOf ix i 7) (colOf ix i 8) refl refl (eqb (colOf ix i 4) 0)
-
       pub machines-are : any t (cited-machines (entryAt s ix i)) ≡ (holds t (textCell s (in-clocks ix i 6)) || holds t (textCell s (in-sync ix i 9)))
       unfolding entryAt entryBy clocksBy syncBy at
       machines-are =

@@ -1,4 +1,4 @@
--- 10 at an index: sizes of texts; an index never holds too many entries or items. Assumes nothing.
+-- 10 at an index, but for the paths: sizes of texts; an index never holds too many entries or items. Assumes nothing.
 use mathlib.Core.Path.{_≡_, refl, sym, ap, _∙_}
 use mathlib.Core.Bool.{Bool, true, false, _||_, or-false}
 use mathlib.Core.List.{List}
@@ -9,12 +9,13 @@ use lib.ListN.{length, getD}
 use borrow.Author.Tests.{lt-ltb, le-ltb}
 use Rattle.text.specs.Reading.{Text, pick}
 use Rattle.manifest.specs.View.{Cell, absent, one}
-use Rattle.manifest.specs.Rows.{Item, TraceTime, trace-file, trace-machine, machinesOf, path, every, holds, any, entries, declared, cited-files, cited-machines}
-use Rattle.manifest.specs.Rules.{most-entries, most-items, outside-of, no-path, no-name, refusal-10-size}
+use Rattle.manifest.specs.Rows.{Item, TraceTime, trace-machine, machinesOf, every, holds, any, entries, declared, cited-machines}
+use Rattle.manifest.specs.Rules.{most-entries, most-items, outside-of, no-name}
 use Rattle.index.specs.Index.{textAt, textCell, at, colOf, entriesIn, itemsIn, listed, itemBy, itemOf, itemsFrom, entryBy, entryAt, traceAt, manifestOf}
 use Rattle.index.specs.laws.Entries.{from, listed-length, entryCell, entries-are}
+use Rattle.sizes.specs.Sizes.{size-rule}
 use Rattle.sizes.proofs.Judged.{hit, miss}
-use Rattle.sizes.proofs.Nested.{inside, inside-is, in-clocks, in-sync, some-text, moved, files-are, machines-are}
+use Rattle.sizes.proofs.Nested.{inside, inside-is, in-clocks, some-text, moved, holds-inside, machines-are}
 
 -- ---- a size
 
@@ -57,85 +58,49 @@ few-items s ix i = go (eqb (colOf ix i 3) 0)
 -- ---- in `trace_time`
 
 module _ (s : Text) (ix : List ℕ) where
-  abbrev trace-path : ℕ
-  trace-path = inside (getD ix 1 0) (getD ix 3 0)
-
   abbrev trace-name : ℕ
   trace-name = inside (getD ix 1 0) (getD ix 4 0)
 
-  trace-are : refusal-10-size .outside (manifestOf s ix) ≡ (holds no-path (textCell s trace-path) || holds no-name (textCell s trace-name))
-  unfolding refusal-10-size manifestOf at holds pick traceAt
-  trace-are = ap (λ (b : Bool). b || holds {A = TraceTime} (λ t. holds no-path (trace-file t) || holds no-name (trace-machine t)) (at (getD ix 1 0) (one (traceAt s ix)))) (few-entries s ix) ∙ go (eqb (getD ix 1 0) 0)
-    where
-      go : (b : Bool) → holds {A = TraceTime} (λ t. holds no-path (trace-file t) || holds no-name (trace-machine t)) (pick b absent (one (traceAt s ix)))
-          ≡ (holds no-path (textCell s (pick b 0 (getD ix 3 0))) || holds no-name (textCell s (pick b 0 (getD ix 4 0))))
-      go true = refl
-      go false = refl
+  trace-is : size-rule false .outside (manifestOf s ix) ≡ holds no-name (textCell s trace-name)
+  unfolding size-rule manifestOf at traceAt
+  trace-is =
+      ap (λ (b : Bool). b || holds {A = TraceTime} (λ t. holds no-name (trace-machine t)) (at (getD ix 1 0) (one (traceAt s ix)))) (few-entries s ix)
+      ∙ holds-inside no-name s {A = TraceTime} trace-machine (traceAt s ix) (getD ix 4 0) refl (eqb (getD ix 1 0) 0)
 
-  module _ {f : ℕ} {a : Bool} (ef : f ≡ trace-path) (ea : a ≡ holds no-path (textCell s f)) where
-    pub trace-file-broken : a ≡ true → true ≡ refusal-10-size .outside (manifestOf s ix)
-    trace-file-broken h = hit _ _ trace-are (moved no-path s ef ea) h
-
-    pub trace-machine-decides : a ≡ false → {m : ℕ} {b : Bool} → m ≡ trace-name → b ≡ holds no-name (textCell s m) → b ≡ refusal-10-size .outside (manifestOf s ix)
-    trace-machine-decides h em eb = moved no-name s em eb ∙ sym (miss _ _ trace-are (moved no-path s ef ea) h)
+  pub trace-machine-decides : {m : ℕ} {b : Bool} → m ≡ trace-name → b ≡ holds no-name (textCell s m) → b ≡ size-rule false .outside (manifestOf s ix)
+  trace-machine-decides em eb = moved no-name s em eb ∙ sym trace-is
 
 -- ---- in an entry
 
 module _ (s : Text) (ix : List ℕ) (i : ℕ) where
   abbrev pub cited : Bool
-  cited = any no-path (cited-files (entryAt s ix i)) || any no-name (cited-machines (entryAt s ix i))
+  cited = any no-name (cited-machines (entryAt s ix i))
 
-  cited-are : cited ≡ (holds no-path (textCell s (in-sync ix i 8)) || (holds no-name (textCell s (in-clocks ix i 6)) || holds no-name (textCell s (in-sync ix i 9))))
-  cited-are = λ k. files-are no-path s ix i k || machines-are no-name s ix i k
+  -- the code's positions: `clocks`, and the machine in it (number w)
+  module _ {c w o : ℕ} {b : Bool} (ec : c ≡ colOf ix i 4) (ew : w ≡ colOf ix i 6) (eo : o ≡ inside c w) (eb : b ≡ holds no-name (textCell s o)) where
+    own-is : b ≡ holds no-name (textCell s (in-clocks ix i 6))
+    own-is = moved no-name s (inside-is ec ew eo) eb
 
-  -- the code's positions: `clocks`, `sync_to` (number v) and the file in it (number g)
-  module _ {c v y g f : ℕ} {a : Bool} (ec : c ≡ colOf ix i 4) (ev : v ≡ colOf ix i 7) (ey : y ≡ inside c v) (eg : g ≡ colOf ix i 8) (ef : f ≡ inside y g) (ea : a ≡ holds no-path (textCell s f)) where
-    sync-is : y ≡ in-clocks ix i 7
-    sync-is = inside-is ec ev ey
+    pub own-machine-broken : b ≡ true → true ≡ cited
+    own-machine-broken h = hit _ _ (machines-are no-name s ix i) own-is h
 
-    file-is : a ≡ holds no-path (textCell s (in-sync ix i 8))
-    file-is = moved no-path s (inside-is sync-is eg ef) ea
-
-    pub cited-file-broken : a ≡ true → true ≡ cited
-    cited-file-broken h = hit _ _ cited-are file-is h
-
-    -- the machine in `clocks` (number w)
-    module _ (na : a ≡ false) {w o : ℕ} {b : Bool} (ew : w ≡ colOf ix i 6) (eo : o ≡ inside c w) (eb : b ≡ holds no-name (textCell s o)) where
-      own-is : b ≡ holds no-name (textCell s (in-clocks ix i 6))
-      own-is = moved no-name s (inside-is ec ew eo) eb
-
-      pub own-machine-broken : b ≡ true → true ≡ cited
-      own-machine-broken h = hit _ _ (miss _ _ cited-are file-is na) own-is h
-
-      -- and that in `sync_to` (number x)
-      pub sync-machine-decides : b ≡ false → {x m : ℕ} {d : Bool} → x ≡ colOf ix i 9 → m ≡ inside y x → d ≡ holds no-name (textCell s m) → d ≡ cited
-      sync-machine-decides h ex em ed = moved no-name s (inside-is sync-is ex em) ed ∙ sym (miss _ _ (miss _ _ cited-are file-is na) own-is h)
+    -- `sync_to` (number v), and the machine in it (number x)
+    pub sync-machine-decides : b ≡ false → {v y x m : ℕ} {d : Bool} → v ≡ colOf ix i 7 → y ≡ inside c v → x ≡ colOf ix i 9 → m ≡ inside y x → d ≡ holds no-name (textCell s m) → d ≡ cited
+    sync-machine-decides h ev ey ex em ed = moved no-name s (inside-is (inside-is ec ev ey) ex em) ed ∙ sym (miss _ _ (machines-are no-name s ix i) own-is h)
 
   abbrev named : Bool
   named = any (outside-of 0 64) (declared (entryAt s ix i))
 
   abbrev within : Bool
-  within = refusal-10-size .within (manifestOf s ix) i (one (entryAt s ix i))
+  within = size-rule false .within (manifestOf s ix) i (one (entryAt s ix i))
 
-  regroup : (a f m d : Bool) → (a || (f || (m || (d || false)))) ≡ (a || ((f || m) || d))
-  regroup true f m d = refl
-  regroup false true m d = refl
-  regroup false false true d = refl
-  regroup false false false d = or-false d
+  within-are : within ≡ (cited || named)
+  unfolding size-rule holds
+  within-are = ap (λ (b : Bool). cited || (named || b)) (few-items s ix i) ∙ ap (λ (b : Bool). cited || b) (or-false named)
 
-  within-are : within ≡ (holds no-path (textCell s (colOf ix i 0)) || (cited || named))
-  unfolding refusal-10-size holds entryAt entryBy
-  within-are =
-      ap (λ (b : Bool). holds no-path (path (entryAt s ix i)) || (any no-path (cited-files (entryAt s ix i)) || (any no-name (cited-machines (entryAt s ix i)) || (named || b)))) (few-items s ix i)
-      ∙ regroup (holds no-path (path (entryAt s ix i))) (any no-path (cited-files (entryAt s ix i))) (any no-name (cited-machines (entryAt s ix i))) named
+  module _ {b : Bool} (eb : b ≡ cited) where
+    pub cited-broken : b ≡ true → true ≡ within
+    cited-broken h = hit _ _ within-are eb h
 
-  module _ {p : ℕ} {a : Bool} (ep : p ≡ colOf ix i 0) (ea : a ≡ holds no-path (textCell s p)) where
-    pub path-broken : a ≡ true → true ≡ within
-    path-broken h = hit _ _ within-are (moved no-path s ep ea) h
-
-    module _ (na : a ≡ false) {b : Bool} (eb : b ≡ cited) where
-      pub cited-broken : b ≡ true → true ≡ within
-      cited-broken h = hit _ _ (miss _ _ within-are (moved no-path s ep ea) na) eb h
-
-      pub declared-decides : b ≡ false → {d : Bool} → d ≡ named → d ≡ within
-      declared-decides h ed = ed ∙ sym (miss _ _ (miss _ _ within-are (moved no-path s ep ea) na) eb h)
+    pub declared-decides : b ≡ false → {d : Bool} → d ≡ named → d ≡ within
+    declared-decides h ed = ed ∙ sym (miss _ _ within-are eb h)

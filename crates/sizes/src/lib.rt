@@ -1,13 +1,13 @@
-// Refusals 10 to 13: sizes, clock names, machine with machines, empty names.
+// Refusals 10 to 13: sizes, clock names, machine with machines, empty names. Whether paths break 10 is told.
 ghost use mathlib.Core.Path.{_≡_};
 ghost use mathlib.Core.Bool.{false, _||_};
 ghost use lib.Dec.{eqb};
 ghost use Rattle.text.specs.Reading.{pick};
 ghost use Rattle.manifest.specs.View.{one};
-ghost use Rattle.manifest.specs.Rows.{holds, any, declared, cited-files, cited-machines};
-ghost use Rattle.manifest.specs.Rules.{applies, first, no-path, no-name, outside-of, no-clock, is-empty, refusal-10-size, refusal-11-unknown-clock-name, refusal-12-machine-with-machines, refusal-13-empty-machine-name};
+ghost use Rattle.manifest.specs.Rows.{holds, any, declared, cited-machines};
+ghost use Rattle.manifest.specs.Rules.{applies, first, no-name, outside-of, no-clock, is-empty, refusal-11-unknown-clock-name, refusal-12-machine-with-machines, refusal-13-empty-machine-name};
 ghost use Rattle.index.specs.Index.{textCell, entryAt, manifestOf};
-ghost use Rattle.sizes.specs.Sizes.{sizes-rules};
+ghost use Rattle.sizes.specs.Sizes.{size-rule, sizes-rules};
 
 // The position p of a value inside the value at another position; none, if there is nothing at that one.
 fn inside(outer: usize, p: usize) -> usize
@@ -16,51 +16,42 @@ fn inside(outer: usize, p: usize) -> usize
     if outer == 0 { 0 } else { p }
 }
 
-// ---- 10: a size is broken, outside the declared names
+// ---- 10: a size is broken, outside the declared names; those of paths are told
 
-// There is a text at p, and it has fewer bytes than `low` or more than `high`.
-fn size_broken(s: &[u8], p: usize, low: usize, high: usize) -> bool
-    ensures { λ r. ⌜ r ≡ holds (outside-of low high) (textCell (now (s .entry)) p) ⌝ }
+// There is a text at p, and it has the size of no machine's name.
+fn name_broken(s: &[u8], p: usize) -> bool
+    ensures { λ r. ⌜ r ≡ holds no-name (textCell (now (s .entry)) p) ⌝ }
 {
     if p == 0 {
         return false;
     }
     let n = index::length_at(s, p);
-    if n < low {
+    if n < 1 {
         return true;
     }
-    high < n
+    64 < n
 }
 
 // In `trace_time`; an index holds no more entries than may be.
 fn refusal_10_outside(s: &[u8], ix: &[usize; 2470]) -> bool
-    ensures { λ r. ⌜ r ≡ refusal-10-size .outside (manifestOf (now (s .entry)) (now (ix .entry))) ⌝ }
+    ensures { λ r. ⌜ r ≡ size-rule false .outside (manifestOf (now (s .entry)) (now (ix .entry))) ⌝ }
 {
-    let trace = ix[1];
-    let trace_file = inside(trace, ix[3]);
-    let trace_machine = inside(trace, ix[4]);
-    if size_broken(s, trace_file, 1, 255) {
-        return true;
-    }
-    size_broken(s, trace_machine, 1, 64)
+    let trace_machine = inside(ix[1], ix[4]);
+    name_broken(s, trace_machine)
 }
 
-// A path or a machine that entry i cites.
+// A machine that entry i cites.
 fn cited_size(s: &[u8], ix: &[usize; 2470], i: usize) -> bool
-    ensures { λ r. ⌜ r ≡ (any no-path (cited-files (entryAt (now (s .entry)) (now (ix .entry)) i)) || any no-name (cited-machines (entryAt (now (s .entry)) (now (ix .entry)) i))) ⌝ }
+    ensures { λ r. ⌜ r ≡ any no-name (cited-machines (entryAt (now (s .entry)) (now (ix .entry)) i)) ⌝ }
 {
     let clocks = index::col(ix, i, 4);
     let sync = inside(clocks, index::col(ix, i, 7));
-    let file = inside(sync, index::col(ix, i, 8));
     let own_machine = inside(clocks, index::col(ix, i, 6));
     let machine = inside(sync, index::col(ix, i, 9));
-    if size_broken(s, file, 1, 255) {
+    if name_broken(s, own_machine) {
         return true;
     }
-    if size_broken(s, own_machine, 1, 64) {
-        return true;
-    }
-    size_broken(s, machine, 1, 64)
+    name_broken(s, machine)
 }
 
 // ---- 10, and the empty names of 13: each length is asked once
@@ -129,15 +120,8 @@ fn names_found(s: &[u8], ix: &[usize; 2470], i: usize) -> Found
 
 // Entry i; an index holds no more items than may be.
 fn entry_found(s: &[u8], ix: &[usize; 2470], i: usize) -> Found
-    ensures { λ r. ⌜ (r .broken ≡ refusal-10-size .within (manifestOf (now (s .entry)) (now (ix .entry))) i (one (entryAt (now (s .entry)) (now (ix .entry)) i))) × (r .broken ≡ false → r .empty ≡ refusal-13-empty-machine-name .within (manifestOf (now (s .entry)) (now (ix .entry))) i (one (entryAt (now (s .entry)) (now (ix .entry)) i))) ⌝ }
+    ensures { λ r. ⌜ (r .broken ≡ size-rule false .within (manifestOf (now (s .entry)) (now (ix .entry))) i (one (entryAt (now (s .entry)) (now (ix .entry)) i))) × (r .broken ≡ false → r .empty ≡ refusal-13-empty-machine-name .within (manifestOf (now (s .entry)) (now (ix .entry))) i (one (entryAt (now (s .entry)) (now (ix .entry)) i))) ⌝ }
 {
-    let path = index::col(ix, i, 0);
-    if size_broken(s, path, 1, 255) {
-        return Found {
-            broken: true,
-            empty: false,
-        };
-    }
     if cited_size(s, ix, i) {
         return Found {
             broken: true,
@@ -147,9 +131,9 @@ fn entry_found(s: &[u8], ix: &[usize; 2470], i: usize) -> Found
     names_found(s, ix, i)
 }
 
-// The whole manifest: 10, and 13 where 10 is not.
+// The whole manifest but for its paths: 10, and 13 where 10 is not.
 fn sizes_found(s: &[u8], ix: &[usize; 2470]) -> Found
-    ensures { λ r. ⌜ (r .broken ≡ applies refusal-10-size (manifestOf (now (s .entry)) (now (ix .entry)))) × (r .broken ≡ false → r .empty ≡ applies refusal-13-empty-machine-name (manifestOf (now (s .entry)) (now (ix .entry)))) ⌝ }
+    ensures { λ r. ⌜ (r .broken ≡ applies (size-rule false) (manifestOf (now (s .entry)) (now (ix .entry)))) × (r .broken ≡ false → r .empty ≡ applies refusal-13-empty-machine-name (manifestOf (now (s .entry)) (now (ix .entry)))) ⌝ }
 {
     if refusal_10_outside(s, ix) {
         return Found {
@@ -257,10 +241,13 @@ fn refusal_12_machine_with_machines(s: &[u8], ix: &[usize; 2470]) -> bool
     false
 }
 
-// The number of the first of these rules that applies to the manifest; 0 if none does.
-pub fn refusal(s: &[u8], ix: &[usize; 2470]) -> u8
-    ensures { λ r. ⌜ r ≡ first sizes-rules (manifestOf (now (s .entry)) (now (ix .entry))) ⌝ }
+// The number of the first of these rules that applies to the manifest; 0 if none does. `broken` tells whether a path is of a size that no path has.
+pub fn refusal(s: &[u8], ix: &[usize; 2470], broken: bool) -> u8
+    ensures { λ r. ⌜ r ≡ first (sizes-rules broken) (manifestOf (now (s .entry)) (now (ix .entry))) ⌝ }
 {
+    if broken {
+        return 10;
+    }
     let found = sizes_found(s, ix);
     if found.broken {
         return 10;

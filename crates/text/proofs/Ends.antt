@@ -11,9 +11,9 @@ use Rattle.text.specs.declared.Scan.{Scan}
 use Rattle.text.specs.declared.Scan.the-variants.{Done, Bad}
 use Rattle.text.specs.declared.Code.{Code}
 use Rattle.text.specs.declared.Code.the-variants.{Of, No}
-use Rattle.text.specs.laws.Readers.{at, Past, past-strict, past-deep}
+use Rattle.text.specs.laws.Readers.{at-done-le, Past, past-strict, past-deep}
 use Rattle.text.specs.laws.Strings.{character-past, character-bounded, characters-close, characters-more, characters-bad, characters-over, characters-turns, string-none, string-some}
-use Rattle.text.specs.laws.Plain.{own, pastOwn, own-step, own-stop, own-past, own-ge, own-le}
+use Rattle.text.specs.laws.Plain.{own, pastOwn, own-step, own-stop, own-past}
 use Rattle.text.proofs.Quick.{plain-at}
 
 -- where the characters from i on end
@@ -41,23 +41,16 @@ code-bad (done w k) g e = cc
 code-bad (bad k) {p} g e = let a : k ≡ p = cc in rw a
 code-bad (deep k) g e = absurd (past-deep g refl)
 
-ends-more : (s : Text) (i : ℕ) {v j : ℕ} → character s i ≡ done v j → ends s i ≡ ends s j
+pub ends-more : (s : Text) (i : ℕ) {v j : ℕ} → character s i ≡ done v j → ends s i ≡ ends s j
 unfolding onward ends
 ends-more s i {v} {j} e =
     let l : i < j = past-strict (character-past s i) e in
     ap scan (characters-more (length s) s i e) ∙ before-scan _ v ∙ ap scan (characters-turns s (length s) (suc (length s)) j (omega arith) (omega arith))
 
 module _ (s : Text) (i : ℕ) where
-  -- a character
-  pub goes-on : {r : Code} {v j : ℕ} → r ≡ codeOf (character s i) → r ≡ Of v j → ends s i ≡ ends s j
-  goes-on e f = ends-more s i (code-done _ (sym e ∙ f))
-
-  pub goes-past : {r : Code} {v j : ℕ} → r ≡ codeOf (character s i) → r ≡ Of v j → i < j
-  goes-past e f = past-strict (character-past s i) (code-done _ (sym e ∙ f))
-
-  pub goes-within : i ≤ length s → {r : Code} {v j : ℕ} → r ≡ codeOf (character s i) → r ≡ Of v j → j ≤ length s
-  unfolding at
-  goes-within h e f = let l = character-bounded s i h in rw (code-done _ (sym e ∙ f)) at l
+  -- a character that was told
+  pub was-read : {r : Code} {v j : ℕ} → r ≡ codeOf (character s i) → r ≡ Of v j → character s i ≡ done v j
+  was-read e f = code-done _ (sym e ∙ f)
 
   module _ {b : ℕ} (e : b ≡ peek s i) where
     -- the closing quote
@@ -96,12 +89,9 @@ own-turns (suc n) s i h = go (decLt i (length s)) (own-turns n s (i + 1) (omega 
 pub goes-own : (s : Text) (i : ℕ) {k : ℕ} → k ≡ pastOwn s i → ends s i ≡ ends s k
 goes-own s i e = own-turns (length s) s i (omega arith) ∙ ap (ends s) (sym e)
 
--- a character, and the run of them after it, from i to k
-pub ahead : (s : Text) (i : ℕ) {k : ℕ} → i ≤ length s → {r : Code} {v j : ℕ} → r ≡ codeOf (character s i) → r ≡ Of v j → k ≡ pastOwn s j → (i < k) × (k ≤ length s)
-ahead s i {k} h {j = j} f g e =
-    let a : j ≤ pastOwn s j = own-ge s j in
-    let b : pastOwn s j ≤ length s = own-le s j (goes-within s i h f g) in
-    (omega (arith, goes-past s i f g), omega arith)
+-- a character goes forward and stays within the text
+pub ahead : (s : Text) (i : ℕ) {v j : ℕ} → i ≤ length s → character s i ≡ done v j → (i < j) × (j ≤ length s)
+ahead s i h e = (past-strict (character-past s i) e, at-done-le (character-bounded s i h) e)
 
 -- no quote stands past the end
 pub unclosed : (s : Text) (i : ℕ) → length s ≤ i → ends s i ≡ Bad i

@@ -3,6 +3,7 @@ pub mod Table
 pub mod Told
 pub mod Quick
 pub mod Coded
+pub mod Hexes
 pub mod Ends
 pub mod Leads
-pub mod Several
+pub mod SeveralBytes

@@ -89,6 +89,13 @@ plain-at s i l e h =
     let w = between (classOf (getD s i 0)) (sym e ∙ h) in
     character-plain s i (ap classOf (peek-at s i l)) (w .0) (w .1)
 
+-- and one that is none, as it is read
+pub other-at : (s : Text) (i : ℕ) → i < length s → {r : Bool} → r ≡ own (getD s i 0) → r ≡ false → own (peek s i) ≡ false
+other-at s i l e h = ap own (sym (peek-at s i l)) ∙ sym e ∙ h
+
+pub other-was : (s : Text) (i : ℕ) → i < length s → own (peek s i) ≡ false → own (getD s i 0) ≡ false
+other-was s i l h = ap own (peek-at s i l) ∙ h
+
 -- a byte of the class k that is none
 pub no-plain : (b : ℕ) {k : ℕ} {r : Bool} → k ≡ classOf b → r ≡ own b → r ≡ false → (ltb k 4 || ltb 17 k) ≡ true
 no-plain b f e h = ap (λ (k : ℕ). ltb k 4 || ltb 17 k) f ∙ outside (classOf b) (sym e ∙ h)

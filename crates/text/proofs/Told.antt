@@ -1,16 +1,15 @@
 -- The values of hexadecimal digits and of escapes, told by comparing. Assumes nothing.
 use mathlib.Core.Bool.{false, _&&_}
-use mathlib.Core.Path.{_≡_, refl, sym, ap, _∙_}
-use Prim.Native.Nat.{ℕ, _+_, _-_, _≤_, _<_}
+use mathlib.Core.Path.{_≡_, sym, ap, _∙_}
+use Prim.Native.Nat.{ℕ, _-_, _≤_, _<_}
 use native.Mathlib.Omega.{arith}
 use native.Mathlib.Decide.{decLt}
 use lib.Dec.{leb, eqb, T}
 use lib.ListN.{length, getD}
-use borrow.Author.Tests.{le-leb, lt-leb, ne-eqb}
+use borrow.Author.Tests.{le-leb, lt-leb}
 use Rattle.text.specs.Reading.{Text, pick, peek}
 use Rattle.text.specs.Class.{classOf}
-use Rattle.text.specs.Strings.{hexOf, escapeOf, escape, codeOf}
-use Rattle.text.specs.declared.Code.the-variants.{Of}
+use Rattle.text.specs.Strings.{hexOf, escapeOf}
 use Rattle.text.specs.laws.Bytes.{agree, from, class-from}
 use Rattle.text.specs.laws.Peek.{peek-at}
 
@@ -73,14 +72,3 @@ no-backslash b e n = ap (λ (k : ℕ). eqb k 3) e ∙ class-from 3 92 92 tt tt b
     go : Dec (b < 92) → (leb 92 b && leb b 92) ≡ false
     go (yes l) = rw (lt-leb 92 b l)
     go (no m) = rw (le-leb 92 b (omega arith), lt-leb b 92 (omega (arith, n)))
-
--- a u ends no short escape, so where one ends, the escape is short
-no-u : {b : ℕ} → b ≡ 117 → escapeOf b ≡ 0
-unfolding escapeOf pick
-no-u e = ap escapeOf e
-
-pub short-escape : (s : Text) (i : ℕ) {v : ℕ} → v ≡ escapeOf (peek s (i + 1)) → (v ≡ 0 → ⊥) → Of v (i + 2) ≡ codeOf (escape s i)
-unfolding escape pick codeOf
-short-escape s i {v} e n =
-    let m : peek s (i + 1) ≡ 117 → ⊥ = λ q. n (e ∙ no-u q) in
-    simp (ne-eqb (peek s (i + 1)) 117 m, ← e, ne-eqb v 0 n)

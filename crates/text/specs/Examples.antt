@@ -5,11 +5,12 @@ use Rattle.text.specs.Reading.{done, bad, next, pick, peek, count, run, 
 use Rattle.text.specs.Class.{classOf, whitespace, skip, digit}
 use Rattle.text.specs.Strings.{hexOf, escapeOf, pairOf, quad, low, joined, paired, escape, tail, second, two, three, four, classed, character, utf8, before, onward, characters, string}
 use Rattle.text.specs.Raw.{further, rawTurns, pastRaw}
+use Rattle.text.specs.Escapes.{shortAt, packed, longAt, bytesIn, severalAt}
 use Rattle.text.specs.Numbers.{digits, minus, sign, int, frac, exp, rest, written, number}
 
 -- what the examples compute with
 opened : Unit {0}
-unfolding next pick peek count run part word scan classOf whitespace skip digit hexOf escapeOf pairOf quad low joined paired escape tail second two three four classed character utf8 before onward characters string further rawTurns pastRaw digits minus sign int frac exp rest written number
+unfolding next pick peek count run part word scan classOf whitespace skip digit hexOf escapeOf pairOf quad low joined paired escape tail second two three four classed character utf8 before onward characters string further rawTurns pastRaw shortAt packed longAt bytesIn severalAt digits minus sign int frac exp rest written number
 opened = tt
 
 -- "a\n"
@@ -98,3 +99,24 @@ raw-then-escape = refl
 raw-then-wrong : pastRaw (97 ∷ 169 ∷ 34 ∷ []) 0 ≡ 1
 unfolding opened
 raw-then-wrong = refl
+
+-- \n is 10; é is E9 with 6 bytes as \u00e9, and a character of 2 bytes as it stands; 😀 is 1F600 with 12 bytes as \ud83d\ude00, whose second half alone is none
+newline-told : shortAt (92 ∷ 110 ∷ []) 0 ≡ 10
+unfolding opened
+newline-told = refl
+
+escape-told : longAt (92 ∷ 117 ∷ 48 ∷ 48 ∷ 101 ∷ 57 ∷ []) 0 ≡ 3734
+unfolding opened
+escape-told = refl
+
+surrogates-told : longAt (92 ∷ 117 ∷ 100 ∷ 56 ∷ 51 ∷ 100 ∷ 92 ∷ 117 ∷ 100 ∷ 101 ∷ 48 ∷ 48 ∷ []) 0 ≡ 2056204
+unfolding opened
+surrogates-told = refl
+
+half-told : longAt (92 ∷ 117 ∷ 100 ∷ 101 ∷ 48 ∷ 48 ∷ []) 0 ≡ 0
+unfolding opened
+half-told = refl
+
+two-told : severalAt (195 ∷ 169 ∷ []) 0 ≡ 2
+unfolding opened
+two-told = refl

@@ -3,6 +3,7 @@ pub mod Reading
 pub mod Class
 pub mod Strings
 pub mod Raw
+pub mod Escapes
 pub mod Numbers
 pub mod Examples
 pub mod Theorems

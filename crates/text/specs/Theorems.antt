@@ -1,14 +1,16 @@
 -- What the definitions say, in other words. Assumes nothing.
-use mathlib.Core.Path.{_≡_}
-use mathlib.Core.Bool.{_&&_, _||_}
+use mathlib.Core.Path.{_≡_, refl}
+use mathlib.Core.Bool.{false, _&&_, _||_}
 use mathlib.Core.Logic.{_⊎_}
 use mathlib.Core.List.{_++_}
-use Prim.Native.Nat.{ℕ, suc, _+_, _≤_, _<_}
+use Prim.Native.Nat.{ℕ, suc, _+_, _/_, _%_, _≤_, _<_}
 use lib.ListN.{length, take}
 use lib.Dec.{leb, ltb, eqb}
-use Rattle.text.specs.Reading.{Text, done, bad, peek, part, word}
+use Rattle.text.specs.Reading.{Text, done, bad, next, peek, part, word}
 use Rattle.text.specs.Class.{classOf, whitespace, digit}
-use Rattle.text.specs.Strings.{character, utf8, string}
+use Rattle.text.specs.Strings.{character, utf8, characters, string}
+use Rattle.text.specs.Raw.{pastRaw}
+use Rattle.text.specs.Escapes.{shortAt, longAt, severalAt}
 use Rattle.text.specs.Numbers.{number}
 use Rattle.text.specs.laws.ClassTable.{Exactly, single, white-bytes, digit-bytes, control-bytes, plain-bytes, single-exactly}
 use Rattle.text.specs.laws.Readers.{closed-ends, bad-stays, bad-completes}
@@ -17,6 +19,8 @@ use Rattle.text.specs.laws.Words.{Bytes, word-local, word-ends, word-bou
 use Rattle.text.specs.laws.Numbers.{number-local, number-ends, number-bounded}
 use Rattle.text.specs.laws.Strings.{string-local, string-ends, string-bounded}
 use Rattle.text.specs.laws.Utf8.{character-scalar, character-raw}
+use Rattle.text.specs.laws.Raw.{prefixed, raw-reads}
+use Rattle.text.specs.laws.Escapes.{short-reads, long-reads, several-reads, no-character}
 
 -- Exactly the bytes 9, 10, 13 and 32 are whitespace.
 pub whitespace-is : (b : ℕ) → whitespace b ≡ (eqb b 9 || (eqb b 10 || (eqb b 13 || eqb b 32)))
@@ -47,6 +51,24 @@ character-is-scalar s i v j e = character-scalar s i v j e
 -- A character that is not escaped stands there as its code point's UTF-8. So no longer form than need be is taken.
 pub character-is-raw : (s : Text) (i v j : ℕ) → character s i ≡ done v j → (peek s i ≡ 92 → ⊥) → utf8 v ≡ part s i j
 character-is-raw s i v j e n = character-raw s i v j e n
+
+-- What stands for its own bytes is read as these bytes: what is left of a string is the bytes up to `pastRaw`, and then what is left past them.
+pub raw-is : (s : Text) (i : ℕ) → characters (suc (length s)) s i ≡ next (characters (suc (length s)) s (pastRaw s i)) (prefixed (part s i (pastRaw s i)))
+raw-is s i = raw-reads s i refl
+
+-- A character that is told by how it is written is read as that, and so many bytes are read.
+pub short-is : (s : Text) (i : ℕ) → 0 < shortAt s i → character s i ≡ done (shortAt s i) (i + 2)
+short-is s i h = short-reads s i refl h
+
+pub long-is : (s : Text) (i : ℕ) → 0 < longAt s i → character s i ≡ done (longAt s i / 16) (i + longAt s i % 16)
+long-is s i h = long-reads s i refl h
+
+pub several-is : (s : Text) (i : ℕ) → 0 < severalAt s i → (v : ℕ) × (character s i ≡ done v (i + severalAt s i)) × (utf8 v ≡ part s i (i + severalAt s i))
+several-is s i h = let w = several-reads s i refl h in (w .0, w .1, w .2)
+
+-- Where none is told, and no byte that is a character by itself stands, there is no character.
+pub none-is : (s : Text) (i : ℕ) → shortAt s i ≡ 0 → longAt s i ≡ 0 → severalAt s i ≡ 0 → (leb 4 (classOf (peek s i)) && ltb (classOf (peek s i)) 18) ≡ false → (p : ℕ) × (character s i ≡ bad p)
+none-is s i a b c h = no-character s i refl a refl b refl c h
 
 -- Where a string goes wrong at p, no text with the same bytes up to p, p among them, has a string there; but its first p bytes
 -- can be completed to one. So p is the first position after which no string is possible.

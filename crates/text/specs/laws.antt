@@ -14,3 +14,4 @@ pub mod Characters
 pub mod Strings
 pub mod Utf8
 pub mod Raw
+pub mod Escapes

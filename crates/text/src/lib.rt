@@ -1,7 +1,7 @@
 // The bytes of a JSON text: classes, strings, numbers, literals, whitespace.
 ghost use mathlib.Core.Path.{_≡_};
-ghost use Prim.Native.Nat.{suc, _+_, _*_, _≤_, _<_, _^_};
-ghost use mathlib.Core.Bool.{true, _||_};
+ghost use Prim.Native.Nat.{suc, _+_, _*_, _/_, _≤_, _<_, _^_};
+ghost use mathlib.Core.Bool.{true, false, _||_};
 ghost use lib.Dec.{eqb};
 ghost use lib.ListN.{length};
 ghost use lib.Count.{trailingZeros};
@@ -9,9 +9,11 @@ ghost use Rattle.text.specs.Reading.{pick, peek, run, word, scan};
 ghost use Rattle.text.specs.Class.{classOf, skip, whitespace, digit as digitOf};
 ghost use Rattle.text.specs.Strings.{hexOf, escapeOf, pairOf, quad as quadOf, low as lowOf, paired as pairedOf, escape as escapeAt, second as secondOf, two as twoOf, three as threeOf, four as fourOf, character as characterOf, codeOf, characters, string as stringOf};
 ghost use Rattle.text.specs.Raw.{pastRaw};
+ghost use Rattle.text.specs.Escapes.{shortAt, longAt, severalAt};
 ghost use Rattle.text.specs.Numbers.{digits as digitsOf, minus as minusOf, sign as signOf, int as intOf, frac as fracOf, exp as expOf, rest as restOf, number as numberOf};
 ghost use Rattle.text.specs.laws.Marks.{marks};
 ghost use Rattle.text.specs.laws.Plain.{own, ownAt, pastOwn, Near};
+ghost use Rattle.text.specs.laws.Escapes.{digitsAt};
 ghost use Rattle.text.specs.laws.Raw.{Wide};
 
 // Where a reading ends; or the first position after which no well-formed text is possible; or the byte that opens one level too many.
@@ -103,24 +105,18 @@ pub fn blank(s: &[u8], at: usize) -> usize
     i
 }
 
-// The value of a hexadecimal digit; 16 for what is none. By comparing, since a table is laid out on the stack for each use.
+// The value of a hexadecimal digit; 16 for what is none. By comparing, since a table is laid out on the stack for each use; a small letter is told by three tests.
 fn hex_of(b: u32) -> u32
     ensures { λ r. ⌜ r ≡ hexOf b ⌝ }
 {
-    if b < 48 {
-        return 16;
-    }
     if b < 58 {
-        return b - 48;
-    }
-    if b < 65 {
-        return 16;
-    }
-    if b < 71 {
-        return b - 55;
+        return if b < 48 { 16 } else { b - 48 };
     }
     if b < 97 {
-        return 16;
+        if b < 65 {
+            return 16;
+        }
+        return if b < 71 { b - 55 } else { 16 };
     }
     if b < 103 { b - 87 } else { 16 }
 }
@@ -154,6 +150,95 @@ fn escape_of_at(s: &[u8], at: usize) -> u32
     ensures { λ r. ⌜ r ≡ escapeOf (peek (now (s .entry)) at) ⌝ }
 {
     escape_of(byte(s, at))
+}
+
+// What a backslash and a letter at a position stand for; 0 where no such escape stands.
+pub fn short(s: &[u8], at: usize) -> u32
+    ensures { λ r. ⌜ r ≡ shortAt (now (s .entry)) at ⌝ }
+{
+    if byte(s, at) != 92 {
+        return 0;
+    }
+    escape_of_at(s, at + 1)
+}
+
+// The four hexadecimal digits at a position as a number; 65536 if one is none.
+fn four_digits(s: &[u8], at: usize) -> u32
+    requires { ⌜ at + 4 ≤ length (now s) ⌝ }
+    ensures { λ r. ⌜ r ≡ digitsAt (now (s .entry)) at ⌝ }
+{
+    let a = hex_of(widen(s[at]));
+    if 15 < a {
+        return 65536;
+    }
+    let b = hex_of(widen(s[at + 1]));
+    if 15 < b {
+        return 65536;
+    }
+    let c = hex_of(widen(s[at + 2]));
+    if 15 < c {
+        return 65536;
+    }
+    let d = hex_of(widen(s[at + 3]));
+    if 15 < d {
+        return 65536;
+    }
+    ((a * 16 + b) * 16 + c) * 16 + d
+}
+
+// The same as `long`, where a backslash, a u and the digits of a surrogate v stand: a low one is no character, and a high one asks for a low one after it.
+fn low_after(s: &[u8], at: usize, v: u32) -> u32
+    requires { ⌜ (peek (now s) at ≡ 92) × (peek (now s) (at + 1) ≡ 117) × (v ≡ digitsAt (now s) (at + 2)) × (v / 2048 ≡ 27) ⌝ }
+    ensures { λ r. ⌜ r ≡ longAt (now (s .entry)) at ⌝ }
+{
+    if v / 1024 != 54 {
+        return 0;
+    }
+    if s.len() - at < 12 {
+        return 0;
+    }
+    if s[at + 6] != 92 {
+        return 0;
+    }
+    if s[at + 7] != 117 {
+        return 0;
+    }
+    let w = four_digits(s, at + 8);
+    if w / 1024 != 55 {
+        return 0;
+    }
+    (65536 + v % 1024 * 1024 + w % 1024) * 16 + 12
+}
+
+// The same as `long`, where a backslash stands. One test of the length for all six bytes, since most such escapes are whole.
+fn long_escape(s: &[u8], at: usize) -> u32
+    requires { ⌜ peek (now s) at ≡ 92 ⌝ }
+    ensures { λ r. ⌜ r ≡ longAt (now (s .entry)) at ⌝ }
+{
+    if s.len() - at < 6 {
+        return 0;
+    }
+    if s[at + 1] != 117 {
+        return 0;
+    }
+    let v = four_digits(s, at + 2);
+    if 65535 < v {
+        return 0;
+    }
+    if v / 2048 != 27 {
+        return v * 16 + 6;
+    }
+    low_after(s, at, v)
+}
+
+// The escape of a backslash and a u at a position as one number: its code point times 16, and how many bytes it has, 6 or 12; 0 where none stands.
+pub fn long(s: &[u8], at: usize) -> u32
+    ensures { λ r. ⌜ r ≡ longAt (now (s .entry)) at ⌝ }
+{
+    if byte(s, at) != 92 {
+        return 0;
+    }
+    long_escape(s, at)
 }
 
 // Two hexadecimal digits, after the number v.
@@ -450,50 +535,15 @@ pub fn past_plain(s: &[u8], at: usize) -> usize
     past_singly(s, past_blocks(s, at + 16), s.len())
 }
 
-// Past the plain bytes at a position where few or none are looked for, as between two escapes: the first 16 one by one.
-fn past_few(s: &[u8], at: usize) -> usize
-    ensures { λ r. ⌜ r ≡ pastOwn (now (s .entry)) at ⌝ }
-{
-    if s.len() <= at {
-        return at;
-    }
-    if !plain(s[at]) {
-        return at;
-    }
-    if s.len() - at < 16 {
-        return past_singly(s, at, s.len());
-    }
-    let i = past_singly(s, at, at + 16);
-    if i < at + 16 {
-        return i;
-    }
-    past_plain(s, i)
-}
-
-// The same as `escape`. Most escapes are a backslash and a letter, so these are tried first.
-fn escaped(s: &[u8], at: usize) -> Code
-    requires { ⌜ at < 2 ^ 63 ⌝ }
-    ensures { λ r. ⌜ r ≡ codeOf (escapeAt (now (s .entry)) at) ⌝ }
-{
-    let short = escape_of_at(s, at + 1);
-    if short == 0 {
-        return escape(s, at);
-    }
-    Code::Of(short, at + 2)
-}
-
-// A character of a string, most often an escape or one of several bytes: by comparing its first byte, since a table is laid out on the stack for each use.
+// A character of a string whose first byte is not plain, most often one of several bytes: by comparing that byte, since a table is laid out on the stack for each use.
 // `closed` alone calls it, so that the compiler lays it into its loop.
 fn odd(s: &[u8], at: usize) -> Code
-    requires { ⌜ at < length (now s) ⌝ }
+    requires { ⌜ (at < length (now s)) × (own (peek (now s) at) ≡ false) ⌝ }
     ensures { λ r. ⌜ r ≡ codeOf (characterOf (now (s .entry)) at) ⌝ }
 {
     let b = s[at];
     if b == 92 {
-        return escaped(s, at);
-    }
-    if plain(b) {
-        return Code::Of(byte(s, at), at + 1);
+        return escape(s, at);
     }
     if b < 194 {
         return Code::No(at);
@@ -565,6 +615,32 @@ fn wide(s: &[u8], at: usize) -> usize
     if byte(s, at + 3) / 64 == 2 { 4 } else { 0 }
 }
 
+// How many bytes the character of several bytes at a position has; 0 where none stands.
+pub fn several(s: &[u8], at: usize) -> usize
+    ensures { λ r. ⌜ r ≡ severalAt (now (s .entry)) at ⌝ }
+{
+    if s.len() <= at {
+        return 0;
+    }
+    if s[at] < 128 {
+        return 0;
+    }
+    wide(s, at)
+}
+
+// The same as `past_plain`, where often no plain byte is left: that is seen at once.
+fn past_others(s: &[u8], at: usize) -> usize
+    ensures { λ r. ⌜ r ≡ pastOwn (now (s .entry)) at ⌝ }
+{
+    if s.len() <= at {
+        return at;
+    }
+    if !plain(s[at]) {
+        return at;
+    }
+    past_plain(s, at)
+}
+
 // Past the characters at a position that stand for their own bytes: all but escapes. Up to the first that does not, or is none.
 pub fn past_raw(s: &[u8], at: usize) -> usize
     ensures { λ r. ⌜ r ≡ pastRaw (now (s .entry)) at ⌝ }
@@ -576,7 +652,7 @@ pub fn past_raw(s: &[u8], at: usize) -> usize
             if !plain(b) {
                 return i;
             }
-            i = past_plain(s, i);
+            i = past_others(s, i + 1);
         } else {
             let n = wide(s, i);
             if n == 0 {
@@ -588,18 +664,31 @@ pub fn past_raw(s: &[u8], at: usize) -> usize
     i
 }
 
-// The characters at a position, to the closing quote.
+// The characters at a position, to the closing quote. What is tried first costs least: after a character that is no plain byte another such often follows.
 fn closed(s: &[u8], at: usize) -> Scan
     requires { ⌜ at ≤ length (now s) ⌝ }
     ensures { λ r. ⌜ r ≡ scan (characters (suc (length (now (s .entry)))) (now (s .entry)) at) ⌝ }
 {
     let mut i = at;
     while i < s.len() {
+        if 0 < short(s, i) {
+            i += 2;
+            continue;
+        }
         if s[i] == 34 {
             return Scan::Done(i + 1);
         }
+        if plain(s[i]) {
+            i += 1;
+            continue;
+        }
+        let e = long(s, i);
+        if 0 < e {
+            i += (e % 16) as usize;
+            continue;
+        }
         match odd(s, i) {
-            Code::Of(_, j) => i = past_few(s, j),
+            Code::Of(_, j) => i = j,
             Code::No(p) => return Scan::Bad(p),
         }
     }

@@ -2,6 +2,7 @@
 use mathlib.Core.Path.{_≡_, refl, sym, ap, _∙_}
 use mathlib.Core.Bool.{Bool, true, false, _&&_}
 use mathlib.Core.List.{[], _∷_, _++_}
+use mathlib.Core.Logic.{⊎-elim}
 use Prim.Native.Nat.{ℕ, zero, suc, _+_, _-_, _*_, _/_, _%_, _≤_, _<_}
 use native.Mathlib.Omega.{arith}
 use native.Mathlib.Nat.{add-zero, zero-add}
@@ -12,21 +13,26 @@ use lib.Seq.{drop-cons}
 use lib.Dec.{eqb, ltb}
 use borrow.Author.Tests.{eq-eqb, ne-eqb, eqb-true, eqb-false, lt-ltb, le-ltb, ltb-true, ltb-false, le-leb, lt-leb}
 use Rattle.text.specs.Reading.{Text, Out, done, bad, deep, next, pick, peek, part}
-use Rattle.text.specs.Strings.{character, utf8, before, string}
+use Rattle.text.specs.Strings.{escapeOf, character, utf8, before, string}
 use Rattle.json.specs.Tree.{same}
 use Rattle.values.specs.Strings.{lengthIn, lengthAt, isText, sameAs, rest, begins, endsIn, bothText, sameTexts}
-use Rattle.values.specs.laws.Compared.{startsFrom, reach, endsFrom}
-use Rattle.values.specs.laws.Ordinary.{Ordinary, reads-itself, width-one, starts-itself, plain-itself}
+use Rattle.values.specs.laws.Compared.{startsFrom, reach, endsFrom, Went}
+use Rattle.values.specs.laws.Ordinary.{Ordinary, reads-itself, width-one, plain-itself}
 use Rattle.values.specs.laws.Alike.{Twice, Alike, alike-less, alike-last}
-use Rattle.values.specs.laws.Raws.{part-length, raw-within, rest-raw, Raws, Passed}
-use Rattle.text.specs.Raw.{pastRaw}
+use Rattle.values.specs.laws.Raws.{part-length, Raws, Passed}
+use Rattle.text.specs.Escapes.{shortAt, longAt, severalAt}
+use Rattle.text.specs.laws.Plain.{own, pastOwn, own-step, own-stop, own-past, own-ge}
+use Rattle.text.specs.laws.Escapes.{short-reads, short-at, long-reads, several-reads, no-character, escape-none}
 use Rattle.text.specs.laws.Raw.{prefixed}
-use Rattle.text.specs.laws.Readers.{pick-true, pick-false}
-use Rattle.text.specs.laws.Strings.{string-none}
+use Rattle.text.specs.laws.Readers.{at-done-le, pick-true, pick-false}
+use Rattle.text.specs.laws.Utf8.{character-raw, character-scalar}
+use Rattle.text.specs.laws.Peek.{peek-in}
+use Rattle.text.specs.laws.Strings.{string-none, character-strict, character-bounded}
 use Rattle.values.specs.laws.Outs.{Stops, stops-is, stops-bad, stops-deep}
 use Rattle.values.specs.laws.Standing.{text-stops, left-stops, right-stops, same-equal}
-use Rattle.values.specs.laws.Rest.{rest-close, rest-char, rest-stops, string-is}
+use Rattle.values.specs.laws.Rest.{rest-close, rest-char, rest-stops, Coded, string-is}
 use Rattle.values.specs.laws.Ends.{ends-whole}
+use Rattle.values.proofs.Widths.{at-most-four, character-in}
 
 -- ---- the length
 
@@ -77,11 +83,65 @@ module _ (s : Text) (n i : ℕ) {r : ℕ} (inv : lengthFrom n (rest s i) ≡ r) 
   pub length-more : (peek s i ≡ 34 → ⊥) → {v j w : ℕ} → character s i ≡ done v j → w ≡ length (utf8 v) → lengthFrom (n + w) (rest s j) ≡ r
   length-more h {v} {j} {w} e f = ap (λ (k : ℕ). lengthFrom (n + k) (rest s j)) f ∙ sym (length-next n v (rest s j)) ∙ ap (lengthFrom n) (sym (rest-char s i h e)) ∙ inv
 
--- characters that stand for their own bytes, in a row: each byte counts one
-pub length-raw : (s : Text) (n i : ℕ) {k r : ℕ} → lengthFrom n (rest s i) ≡ r → k ≡ pastRaw s i → lengthFrom (n + (k - i)) (rest s k) ≡ r
-length-raw s n i {k} inv e =
-    ap (λ (m : ℕ). lengthFrom (n + m) (rest s k)) (sym (part-length s i k (raw-within s i e)))
-    ∙ sym (length-prefixed n (part s i k) (rest s k)) ∙ ap (lengthFrom n) (sym (rest-raw s i e)) ∙ inv
+-- a code point below 128 is one byte
+few-one : (v : ℕ) → v < 128 → utf8 v ≡ v ∷ []
+unfolding utf8
+few-one v h = pick-true _ _ (lt-ltb v 128 h)
+
+pub few-width : {v : ℕ} → v < 128 → 1 ≡ length (utf8 v)
+few-width {v} h = sym (ap length (few-one v h))
+
+-- a character goes forward and stays within the text
+pub ahead : (s : Text) {i v j : ℕ} → character s i ≡ done v j → (i < j) × (j ≤ length s)
+ahead s {i} {v} {j} e = (character-strict s i v j e, at-done-le (character-bounded s i (omega (arith, character-in s e .0))) e)
+
+-- an escape is no quote
+pub short-open : (s : Text) (i : ℕ) {r : ℕ} → r ≡ shortAt s i → 0 < r → peek s i ≡ 34 → ⊥
+short-open s i e h q = omega (arith, short-at s i e h .0)
+
+-- what is written in no way is no character
+pub none-told : (s : Text) (i : ℕ) {r e k b : ℕ} → r ≡ shortAt s i → r ≤ 0 → e ≡ longAt s i → e ≤ 0 → k ≡ severalAt s i → k ≡ 0 → b ≡ peek s i → own b ≡ false → Stops (character s i)
+none-told s i f zf g zg m zm eb o = stops-is (no-character s i f (omega arith) g (omega arith) m zm (ap own (sym eb) ∙ o) .1) stops-bad
+
+length-stays : (s : Text) (n i : ℕ) {k : ℕ} → k ≡ i → lengthFrom (n + (k - i)) (rest s k) ≡ lengthFrom n (rest s i)
+length-stays s n i {k} e = let z : n + (k - i) ≡ n = omega arith in ap (λ (m : ℕ). lengthFrom m (rest s k)) z ∙ ap (λ (m : ℕ). lengthFrom n (rest s m)) e
+
+-- plain bytes in a row, m at most: each counts one
+length-turns : (m : ℕ) (s : Text) (n i : ℕ) → length s ≤ m + i → lengthFrom (n + (pastOwn s i - i)) (rest s (pastOwn s i)) ≡ lengthFrom n (rest s i)
+length-turns zero s n i h = length-stays s n i (own-past s i (omega arith))
+length-turns (suc m) s n i h = go (decLt i (length s)) (length-turns m s (n + 1) (i + 1) (omega arith))
+  where
+    here : lengthFrom (n + 1 + (pastOwn s (i + 1) - (i + 1))) (rest s (pastOwn s (i + 1))) ≡ lengthFrom (n + 1) (rest s (i + 1)) → (l : i < length s) (b : Bool) → own (getD s i 0) ≡ b → lengthFrom (n + (pastOwn s i - i)) (rest s (pastOwn s i)) ≡ lengthFrom n (rest s i)
+    here f l true e =
+        let p = plain-itself s i l e in
+        let q : pastOwn s i ≡ pastOwn s (i + 1) = own-step s i l refl e in
+        let z : n + (pastOwn s (i + 1) - i) ≡ n + 1 + (pastOwn s (i + 1) - (i + 1)) = omega (arith, own-ge s (i + 1)) in
+        ap (λ (k : ℕ). lengthFrom (n + (k - i)) (rest s k)) q ∙ ap (λ (k : ℕ). lengthFrom k (rest s (pastOwn s (i + 1)))) z ∙ f
+        ∙ length-more s n i refl (p .unquoted) (p .reads) (width-one _ (p .ordinary))
+    here f l false e = length-stays s n i (own-stop s i l refl e)
+
+    go : Dec (i < length s) → lengthFrom (n + 1 + (pastOwn s (i + 1) - (i + 1))) (rest s (pastOwn s (i + 1))) ≡ lengthFrom (n + 1) (rest s (i + 1)) → lengthFrom (n + (pastOwn s i - i)) (rest s (pastOwn s i)) ≡ lengthFrom n (rest s i)
+    go (yes l) f = here f l _ refl
+    go (no g) f = length-stays s n i (own-past s i (omega arith))
+
+pub length-own : (s : Text) (i : ℕ) {k r : ℕ} → lengthFrom 0 (rest s i) ≡ r → k ≡ pastOwn s i → lengthFrom (k - i) (rest s k) ≡ r
+length-own s i {k} inv e =
+    ap (λ (m : ℕ). lengthFrom m (rest s k)) (sym (zero-add (k - i))) ∙ ap (λ (m : ℕ). lengthFrom (0 + (m - i)) (rest s m)) e ∙ length-turns (length s) s 0 i (omega arith) ∙ inv
+
+pub own-from : (s : Text) (i : ℕ) {k : ℕ} → k ≡ pastOwn s i → i ≤ k
+own-from s i e = omega (arith, own-ge s i)
+
+-- a character of several bytes counts as many as it has
+pub length-several : (s : Text) (n i : ℕ) {k r : ℕ} → lengthFrom n (rest s i) ≡ r → (peek s i ≡ 34 → ⊥) → k ≡ severalAt s i → 0 < k → lengthFrom (n + k) (rest s (i + k)) ≡ r
+length-several s n i {k} inv h e l =
+    let w = several-reads s i e l in
+    length-more s n i inv h (w .1) (several-width s i e l (w .1) (w .2))
+  where
+    several-width : (s : Text) (i : ℕ) {k : ℕ} → k ≡ severalAt s i → 0 < k → {v : ℕ} → character s i ≡ done v (i + k) → utf8 v ≡ part s i (i + k) → k ≡ length (utf8 v)
+    several-width s i {k} e l c u =
+        let m : i + k ≤ length s = at-done-le (character-bounded s i (omega (arith, character-in s c .0))) c in
+        let z : i + k - i ≡ k = omega arith in
+        sym (ap length u ∙ part-length s i (i + k) (omega arith) ∙ z)
 
 -- ---- the comparison with bytes: where they end in a text t
 
@@ -142,6 +202,36 @@ ends-next : (o : Out Text) (t : Text) (k v : ℕ) → endsFrom (next o (before v
 unfolding prefixed before
 ends-next o t k v = ends-prefixed o t k (utf8 v)
 
+-- a code point whose bytes stand in t, and one whose bytes do not
+module _ (t : Text) (k v : ℕ) {b : Bool} (eb : b ≡ startsFrom true (utf8 v) t k) where
+  stands-step : (o : Out Text) → endsFrom (next o (before v)) t k ≡ pick b (endsFrom o t (k + length (utf8 v))) (length t + 1)
+  stands-step o = ends-next o t k v ∙ ap (λ (x : Bool). pick x (endsFrom o t (k + length (utf8 v))) (length t + 1)) (sym eb)
+
+  pub went-on : b ≡ true → {w : ℕ} → w ≡ length (utf8 v) → k + w ≤ length t + 1 → Went t k v (k + w)
+  went-on h e l = record { within = l; on = λ o. stands-step o ∙ pick-true _ _ h ∙ ap (λ (n : ℕ). endsFrom o t (k + n)) (sym e) }
+
+  pub went-not : b ≡ false → Went t k v (length t + 1)
+  went-not h = record { within = omega arith; on = λ o. stands-step o ∙ pick-false _ _ h ∙ sym (ends-past o t (length t + 1) (omega arith)) }
+
+  pub went-over : b ≡ true → {w : ℕ} → w ≡ length (utf8 v) → length t < k + w → Went t k v (length t + 1)
+  went-over h {w} e l =
+      record {
+        within = omega arith;
+        on = λ o. stands-step o ∙ pick-true _ _ h ∙ ends-past o t (k + length (utf8 v)) (omega arith) ∙ sym (ends-past o t (length t + 1) (omega arith));
+      }
+
+-- one byte
+module _ (t : Text) (k : ℕ) {v : ℕ} (l : v < 128) {b : ℕ} (e : b ≡ peek t k) where
+  one-stands : eqb v b ≡ startsFrom true (utf8 v) t k
+  unfolding startsFrom
+  one-stands = ap (eqb v) e ∙ ap (λ (u : Text). startsFrom true u t k) (sym (few-one v l))
+
+  pub went-one : b ≡ v → Went t k v (k + 1)
+  went-one h = went-on t k v one-stands (eq-eqb v b (sym h)) (few-width l) (omega (arith, peek-in t k (omega arith)))
+
+  pub went-other : (b ≡ v → ⊥) → Went t k v (length t + 1)
+  went-other h = went-not t k v one-stands (ne-eqb v b (λ q. h (sym q)))
+
 pub ends-start : (o : Out Text) (t : Text) → endsFrom o t 0 ≡ endsIn o t
 unfolding endsFrom endsIn
 ends-start (done u j) t = reach-begins u t 0 (omega arith) ∙ ap (λ (n : ℕ). pick (begins u t) n (length t + 1)) (zero-add (length u))
@@ -156,26 +246,23 @@ module _ (s t : Text) (k i : ℕ) {r : ℕ} (inv : endsFrom (rest s i) t k ≡ r
   pub ends-stop : (peek s i ≡ 34 → ⊥) → Stops (character s i) → length t + 1 ≡ r
   ends-stop h g = sym (ends-stops _ t k (rest-stops s i h g)) ∙ inv
 
-  module _ (h : peek s i ≡ 34 → ⊥) {v j : ℕ} (e : character s i ≡ done v j) {b : Bool} (eb : b ≡ startsFrom true (utf8 v) t k) where
-    ends-step : pick b (endsFrom (rest s j) t (k + length (utf8 v))) (length t + 1) ≡ r
-    ends-step = ap (λ (x : Bool). pick x (endsFrom (rest s j) t (k + length (utf8 v))) (length t + 1)) eb ∙ sym (ends-next (rest s j) t k v) ∙ ap (λ (o : Out Text). endsFrom o t k) (sym (rest-char s i h e)) ∙ inv
+  -- past the end of t
+  pub ends-all : length t < k → k ≤ length t + 1 → k ≡ r
+  ends-all h l = let z : k ≡ length t + 1 = omega arith in z ∙ sym (ends-past (rest s i) t k h) ∙ inv
 
-    pub ends-other : b ≡ false → length t + 1 ≡ r
-    ends-other f = sym (pick-false _ _ f) ∙ ends-step
-
-    pub ends-more : b ≡ true → {w : ℕ} → w ≡ length (utf8 v) → endsFrom (rest s j) t (k + w) ≡ r
-    ends-more f {w} g = ap (λ (n : ℕ). endsFrom (rest s j) t (k + n)) g ∙ sym (pick-true _ _ f) ∙ ends-step
-
-    pub ends-over : b ≡ true → {w : ℕ} → w ≡ length (utf8 v) → length t < k + w → length t + 1 ≡ r
-    ends-over f {w} g l = sym (ends-past (rest s j) t (k + w) l) ∙ ends-more f g
+  -- a character
+  pub ends-more : (peek s i ≡ 34 → ⊥) → {v j w : ℕ} → character s i ≡ done v j → Went t k v w → endsFrom (rest s j) t w ≡ r
+  ends-more h {v} {j} e g = sym (g .on (rest s j)) ∙ ap (λ (o : Out Text). endsFrom o t k) (sym (rest-char s i h e)) ∙ inv
 
   -- a byte that is a character by itself
   module _ {b : ℕ} (e : b ≡ peek s i) (n : b ≡ 34 → ⊥) (o : Ordinary b) {x : ℕ} (f : x ≡ peek t k) where
     pub ends-byte-other : (x ≡ b → ⊥) → length t + 1 ≡ r
-    ends-byte-other h = ends-other (λ q. n (e ∙ q)) (reads-itself s i e o n) (starts-itself t k b o) (ne-eqb b (peek t k) (λ q. h (f ∙ sym q)))
+    ends-byte-other h =
+        sym (ends-past (rest s (i + 1)) t (length t + 1) (omega arith))
+        ∙ ends-more (λ q. n (e ∙ q)) (reads-itself s i e o n) (went-other t k (omega (arith, o .high)) f h)
 
     pub ends-byte-more : x ≡ b → endsFrom (rest s (i + 1)) t (k + 1) ≡ r
-    ends-byte-more h = ends-more (λ q. n (e ∙ q)) (reads-itself s i e o n) (starts-itself t k b o) (eq-eqb b (peek t k) (sym h ∙ f)) (width-one b o)
+    ends-byte-more h = ends-more (λ q. n (e ∙ q)) (reads-itself s i e o n) (went-one t k (omega (arith, o .high)) f h)
 
 -- characters that stand for their own bytes, which are those of t
 pub ends-raws : (s t : Text) (k i : ℕ) {r x : ℕ} → endsFrom (rest s i) t k ≡ x → Raws s i t k r → endsFrom (rest s (i + r)) t (k + r) ≡ x
@@ -382,12 +469,6 @@ both-turns s i k (suc r) {x} inv a = go (both-turns s i k r inv (alike-less a)) 
         let g : k + r + 1 ≡ k + suc r = omega arith in
         rw (← e, ← g) (both-more s (i + r) (k + r) f (p .unquoted) (q .unquoted) (p .reads) (q .reads) (t .same))
 
-both-alike : (s : Text) (i k : ℕ) {r : ℕ} {x : Bool} → bothText (rest s (i + 1)) (rest s (k + 1)) ≡ x → Alike s (i + 1) s (k + 1) r → bothText (rest s (i + (r + 1))) (rest s (k + (r + 1))) ≡ x
-both-alike s i k {r} inv a =
-    let e : i + 1 + r ≡ i + (r + 1) = omega arith in
-    let g : k + 1 + r ≡ k + (r + 1) = omega arith in
-    rw (← e, ← g) (both-turns s (i + 1) (k + 1) r inv a)
-
 -- the same bytes before two texts do not matter
 both-prefixed : (u : Text) (o q : Out Text) → bothText (next o (prefixed u)) (next q (prefixed u)) ≡ bothText o q
 unfolding bothText isText next prefixed
@@ -413,16 +494,77 @@ passed-none s i k =
       on = ap (λ (n : ℕ). bothText (rest s n) (rest s (k + 0))) (add-zero i) ∙ ap (λ (n : ℕ). bothText (rest s i) (rest s n)) (add-zero k);
     }
 
--- a byte that is a character by itself, and plain bytes after it
-pub passed-plain : (s : Text) (i k : ℕ) {b r : ℕ} → b ≡ peek s i → b ≡ peek s k → (b ≡ 34 → ⊥) → Ordinary b → Alike s (i + 1) s (k + 1) r → Passed s i k (r + 1)
-passed-plain s i k {b} {r} e f n o a =
-    let g : i + 1 + r ≤ length s = a .left in
-    let h : k + 1 + r ≤ length s = a .right in
-    record {
-      left = omega arith;
-      right = omega arith;
-      on = both-alike s i k (both-more s i k refl (λ q. n (e ∙ q)) (λ q. n (f ∙ q)) (reads-itself s i e o n) (reads-itself s k f o n) refl) a;
-    }
+-- one character, read from both
+passed-read : (s : Text) (i k : ℕ) {v n : ℕ} → (peek s i ≡ 34 → ⊥) → (peek s k ≡ 34 → ⊥) → character s i ≡ done v (i + n) → character s k ≡ done v (k + n) → Passed s i k n
+passed-read s i k {v} {n} g h ei ek =
+    let l : i + n ≤ length s = ahead s ei .1 in
+    let m : k + n ≤ length s = ahead s ek .1 in
+    record { left = omega arith; right = omega arith; on = both-more s i k refl g h ei ek refl }
+
+-- a byte that is a character by itself
+pub passed-byte : (s : Text) (i k : ℕ) {b : ℕ} → b ≡ peek s i → b ≡ peek s k → (b ≡ 34 → ⊥) → Ordinary b → Passed s i k 1
+passed-byte s i k e f n o = passed-read s i k (λ q. n (e ∙ q)) (λ q. n (f ∙ q)) (reads-itself s i e o n) (reads-itself s k f o n)
+
+-- an escape of two bytes
+pub passed-short : (s : Text) (i k : ℕ) → peek s i ≡ 92 → peek s k ≡ 92 → {a b d : ℕ} → a ≡ shortAt s i → (a ≡ 0 → ⊥) → b ≡ peek s (i + 1) → d ≡ peek s (k + 1) → b ≡ d → Passed s i k 2
+unfolding shortAt
+passed-short s i k hi hk {a} ea n eb ed q =
+    let l : 0 < a = omega arith in
+    let letter : escapeOf (peek s (i + 1)) ≡ escapeOf (peek s (k + 1)) = ap escapeOf (sym eb ∙ q ∙ ed) in
+    let f : a ≡ shortAt s k = ea ∙ pick-true _ _ (eq-eqb _ _ hi) ∙ letter ∙ sym (pick-true _ _ (eq-eqb _ _ hk)) in
+    passed-read s i k (short-open s i ea l) (short-open s k f l) (short-reads s i ea l) (short-reads s k f l)
+
+-- a longer one, by its number
+pub passed-long : (s : Text) (i k : ℕ) → peek s i ≡ 92 → peek s k ≡ 92 → {e f : ℕ} → e ≡ longAt s i → (e ≡ 0 → ⊥) → f ≡ longAt s k → e ≡ f → Passed s i k (e % 16)
+passed-long s i k hi hk {e} {f} ei n ek q =
+    let l : 0 < e = omega arith in
+    passed-read s i k (λ (z : peek s i ≡ 34). omega arith) (λ (z : peek s k ≡ 34). omega arith) (long-reads s i ei l) (long-reads s k (q ∙ ek) l)
 
 pub passed-raws : (s : Text) (i k : ℕ) {r : ℕ} → Raws s i s k r → Passed s i k r
 passed-raws s i k a = record { left = a .left; right = a .right; on = both-raws s i k a }
+
+-- ---- a character as one number
+
+coded : (s : Text) (i : ℕ) {v n : ℕ} → character s i ≡ done v (i + n) → n < 16 → Coded s i (v * 16 + n)
+coded s i {v} {n} e l =
+    let m : i < i + n = ahead s e .0 in
+    let x : v ≡ (v * 16 + n) / 16 = omega arith in
+    let y : i + n ≡ i + (v * 16 + n) % 16 = omega arith in
+    record { some = λ _. e ∙ ap (λ (w : ℕ). done w (i + n)) x ∙ ap (done ((v * 16 + n) / 16)) y; none = λ (z : v * 16 + n ≡ 0). absurd (omega arith) }
+
+pub coded-byte : (s : Text) (i : ℕ) {b : ℕ} → b ≡ peek s i → (b ≡ 34 → ⊥) → Ordinary b → Coded s i (b * 16 + 1)
+coded-byte s i e n o = coded s i (reads-itself s i e o n) (omega arith)
+
+pub coded-short : (s : Text) (i : ℕ) {a : ℕ} → a ≡ shortAt s i → 0 < a → Coded s i (a * 16 + 2)
+coded-short s i e h = coded s i (short-reads s i e h) (omega arith)
+
+pub coded-long : (s : Text) (i : ℕ) {e : ℕ} → peek s i ≡ 92 → shortAt s i ≡ 0 → e ≡ longAt s i → Coded s i e
+coded-long s i h z f = record { some = λ l. long-reads s i f l; none = λ q. stops-is (escape-none s i refl z f q h .1) stops-bad }
+
+-- a character that is not escaped has 4 bytes at most
+pub read-few : (s : Text) {i v j : ℕ} → character s i ≡ done v j → (peek s i ≡ 92 → ⊥) → (i < j) × (j ≤ i + 4) × (v < 1114112)
+read-few s {i} {v} {j} e n =
+    let m : j ≤ length s = ahead s e .1 in
+    let l : i < j = ahead s e .0 in
+    let q : length (utf8 v) ≡ j - i = ap length (character-raw s i v j e n) ∙ part-length s i j (omega arith) in
+    (l, omega (arith, at-most-four v), ⊎-elim (λ (x : v < 55296). omega arith) (λ x. omega (arith, x .1)) (character-scalar s i v j e))
+
+pub coded-read : (s : Text) (i : ℕ) {v j : ℕ} → character s i ≡ done v j → (peek s i ≡ 92 → ⊥) → Coded s i (v * 16 + (j - i))
+coded-read s i {v} {j} e n =
+    let w = read-few s e n in
+    let l : i < j = w .0 in
+    let m : j ≤ i + 4 = w .1 in
+    let z : j ≡ i + (j - i) = omega arith in
+    coded s i (e ∙ ap (done v) z) (omega arith)
+
+pub coded-none : (s : Text) (i : ℕ) → Stops (character s i) → Coded s i 0
+coded-none s i h = record { some = λ (l : 0 < 0). absurd (omega arith); none = λ _. h }
+
+-- it goes forward
+pub coded-ahead : (s : Text) (i : ℕ) {r : ℕ} → Coded s i r → (r ≡ 0 → ⊥) → (i < length s) × (0 < r % 16)
+coded-ahead s i {r} c n =
+    let e = c .some (omega arith) in
+    (character-in s e .0, omega (arith, ahead s e .0))
+
+pub coded-some : {s : Text} {i r : ℕ} → Coded s i r → (r ≡ 0 → ⊥) → character s i ≡ done (r / 16) (i + r % 16)
+coded-some {s} {i} {r} c n = c .some (omega arith)

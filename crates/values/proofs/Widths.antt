@@ -25,7 +25,7 @@ pick-holds P false g h = h
 abbrev Within : ℕ → Text → Type 0
 Within n x = length x ≤ n
 
-at-most-four : (v : ℕ) → length (utf8 v) ≤ 4
+pub at-most-four : (v : ℕ) → length (utf8 v) ≤ 4
 unfolding utf8
 at-most-four v = pick-holds (Within 4) _ (omega arith) (pick-holds (Within 4) _ (omega arith) (pick-holds (Within 4) _ (omega arith) (omega arith)))
 
@@ -40,10 +40,6 @@ two-bytes v h = pick-holds (Within 2) _ (omega arith) (rw (pick-true _ _ (lt-ltb
 three-bytes : (v : ℕ) → v < 65536 → length (utf8 v) ≤ 3
 unfolding utf8
 three-bytes v h = pick-holds (Within 3) _ (omega arith) (pick-holds (Within 3) _ (omega arith) (rw (pick-true _ _ (lt-ltb v 65536 h)) (omega arith)))
-
-pub some-byte : (v : ℕ) → 1 ≤ length (utf8 v)
-unfolding utf8
-some-byte v = pick-holds (λ (x : Text). 1 ≤ length x) _ (omega arith) (pick-holds (λ (x : Text). 1 ≤ length x) _ (omega arith) (pick-holds (λ (x : Text). 1 ≤ length x) _ (omega arith) (omega arith)))
 
 -- ---- classes: a byte that stands for itself is below 128
 

@@ -1,7 +1,7 @@
 // Questions about the value at a position of a JSON text: its kind, its text, its integer. Each is answered on every text, at every position.
 ghost use mathlib.Core.Path.{_≡_};
 ghost use Prim.Native.Nat.{_+_, _*_, _-_, _<_, _≤_, _^_, min};
-ghost use mathlib.Core.Bool.{true, _&&_, _||_};
+ghost use mathlib.Core.Bool.{true, false, _&&_, _||_};
 ghost use lib.Dec.{eqb};
 ghost use lib.ListN.{length};
 ghost use lib.IntN.{pos, negℤ};
@@ -11,10 +11,12 @@ ghost use Rattle.text.specs.Strings.{utf8};
 ghost use Rattle.values.specs.Stands.{kindBy, kindAt};
 ghost use Rattle.values.specs.Strings.{lengthAt, sameAs, rest, endsIn, bothText, sameTexts};
 ghost use Rattle.values.specs.Integer.{whole, broken as brokenOf, decimal, ranged, integer, integerAt};
-ghost use Rattle.text.specs.laws.Marks.{marks as marksOf};
-ghost use Rattle.values.specs.laws.Compared.{startsFrom, endsFrom};
+ghost use Rattle.text.specs.Escapes.{shortAt};
+ghost use Rattle.text.specs.laws.Plain.{own};
+ghost use Rattle.values.specs.laws.Compared.{startsFrom, endsFrom, Went};
+ghost use Rattle.values.specs.laws.Rest.{Coded};
 ghost use Rattle.values.specs.laws.Ordinary.{Ordinary};
-ghost use Rattle.values.specs.laws.Alike.{twice, twiceAt, Alike};
+ghost use Rattle.values.specs.laws.Alike.{twice, Alike};
 ghost use Rattle.values.specs.laws.Raws.{Equal, Raws, Passed};
 
 // What kind of value begins at a position.
@@ -90,7 +92,7 @@ pub fn kind_at(s: &[u8], at: usize) -> Kind
 }
 
 // How many bytes a code point has in UTF-8.
-fn width(v: u32) -> usize
+pub fn width(v: u32) -> usize
     ensures { λ r. ⌜ (r ≡ length (utf8 v)) × (r ≤ 4) ⌝ }
 {
     if v < 128 {
@@ -102,28 +104,43 @@ fn width(v: u32) -> usize
     if v < 65536 { 3 } else { 4 }
 }
 
-// The length of the string at a position, unescaped; 0 where no string stands. Characters that stand for their own bytes are counted in a row.
+// The length of the string at a position, unescaped; 0 where no string stands. The plain bytes that it begins with are counted in a row, and what follows by how it is written.
 pub fn length_at(s: &[u8], at: usize) -> usize
     ensures { λ r. ⌜ r ≡ lengthAt (now (s .entry)) at ⌝ }
 {
     if text::byte(s, at) != 34 {
         return 0;
     }
-    let mut i = at + 1;
-    let mut n: usize = 0;
+    let first = at + 1;
+    let mut i = text::past_plain(s, first);
+    let mut n = i - first;
     loop {
-        let k = text::past_raw(s, i);
-        n += k - i;
-        if text::byte(s, k) == 34 {
+        if 0 < text::short(s, i) {
+            n += 1;
+            i += 2;
+            continue;
+        }
+        let b = text::byte(s, i);
+        if b == 34 {
             return n;
         }
-        match text::character(s, k) {
-            text::Code::Of(v, j) => {
-                n += width(v);
-                i = j;
-            }
-            text::Code::No(_) => return 0,
+        if ordinary(b) {
+            n += 1;
+            i += 1;
+            continue;
         }
+        let e = text::long(s, i);
+        if 0 < e {
+            n += width(e / 16);
+            i += (e % 16) as usize;
+            continue;
+        }
+        let k = text::several(s, i);
+        if k == 0 {
+            return 0;
+        }
+        n += k;
+        i += k;
     }
 }
 
@@ -164,7 +181,7 @@ fn starts(t: &[u8], k: usize, v: u32) -> bool
 
 // A byte that is a character by itself, if it is no quote. Most are, and such are compared as bytes.
 fn ordinary(b: u32) -> bool
-    ensures { λ r. ⌜ (r ≡ true → Ordinary b) ⌝ }
+    ensures { λ r. ⌜ (r ≡ true → Ordinary b) × (r ≡ false → own b ≡ false) ⌝ }
 {
     if b < 32 {
         return false;
@@ -226,7 +243,62 @@ fn raw_alike(s: &[u8], i: usize, t: &[u8], k: usize, b: u32) -> usize
     text::past_raw(&s[..i + n], i) - i
 }
 
-// Where what is left of a string ends in a text, with which it agreed up to `start`; past the end of the text if it goes on otherwise. For `begun`, with any characters.
+// Past a byte that stands in a text at a position; past the end of the text if another stands there.
+fn past_one(t: &[u8], k: usize, x: u32) -> usize
+    requires { ⌜ x < 128 ⌝ }
+    ensures { λ r. ⌜ Went (now (t .entry)) k x r ⌝ }
+{
+    if text::byte(t, k) == x {
+        k + 1
+    } else {
+        t.len() + 1
+    }
+}
+
+// Past the bytes of a code point that stand in a text at a position; past the end of the text if they do not.
+fn past_code(t: &[u8], k: usize, v: u32) -> usize
+    requires { ⌜ k ≤ length (now t) ⌝ }
+    ensures { λ r. ⌜ Went (now (t .entry)) k v r ⌝ }
+{
+    let other = t.len() + 1;
+    if !starts(t, k, v) {
+        return other;
+    }
+    let end = k + width(v);
+    if t.len() < end { other } else { end }
+}
+
+// The character at a position, where b stands, as one number: its code point times 16, and how many bytes it has; 0 where none stands. Not for escapes of two bytes.
+fn wide_code(s: &[u8], i: usize, b: u32) -> u32
+    requires { ⌜ (b ≡ peek (now s) i) × (shortAt (now s) i ≡ 0) ⌝ }
+    ensures { λ r. ⌜ Coded (now (s .entry)) i r ⌝ }
+{
+    if b == 92 {
+        return text::long(s, i);
+    }
+    match text::character(s, i) {
+        text::Code::Of(v, j) => v * 16 + (j - i) as u32,
+        text::Code::No(_) => 0,
+    }
+}
+
+// The same for any character.
+fn code_at(s: &[u8], i: usize, b: u32) -> u32
+    requires { ⌜ (b ≡ peek (now s) i) × (b ≡ 34 → ⊥) ⌝ }
+    ensures { λ r. ⌜ Coded (now (s .entry)) i r ⌝ }
+{
+    if ordinary(b) {
+        return b * 16 + 1;
+    }
+    let a = text::short(s, i);
+    if 0 < a {
+        return a * 16 + 2;
+    }
+    wide_code(s, i, b)
+}
+
+// Where what is left of a string ends in a text, with which it agreed up to `start`; past the end of the text if it goes on otherwise. For `begun`, with any characters:
+// those that cost least are tried first, and characters of several bytes that are the same in both are passed in a row.
 fn begun_rest(s: &[u8], from: usize, t: &[u8], start: usize) -> usize
     requires { ⌜ start ≤ length (now t) ⌝ }
     ensures { λ r. ⌜ r ≡ endsFrom (rest (now (s .entry)) from) (now (t .entry)) start ⌝ }
@@ -234,17 +306,20 @@ fn begun_rest(s: &[u8], from: usize, t: &[u8], start: usize) -> usize
     let other = t.len() + 1;
     let mut i = from;
     let mut end = start;
-    loop {
+    while end <= t.len() {
+        let a = text::short(s, i);
+        if 0 < a {
+            end = past_one(t, end, a);
+            i += 2;
+            continue;
+        }
         let b = text::byte(s, i);
         if b == 34 {
             return end;
         }
         if ordinary(b) {
-            if text::byte(t, end) != b {
-                return other;
-            }
+            end = past_one(t, end, b);
             i += 1;
-            end += 1;
             continue;
         }
         let n = raw_alike(s, i, t, end, b);
@@ -253,20 +328,14 @@ fn begun_rest(s: &[u8], from: usize, t: &[u8], start: usize) -> usize
             end += n;
             continue;
         }
-        match text::character(s, i) {
-            text::Code::Of(v, j) => {
-                if !starts(t, end, v) {
-                    return other;
-                }
-                end += width(v);
-                if t.len() < end {
-                    return other;
-                }
-                i = j;
-            }
-            text::Code::No(_) => return other,
+        let e = wide_code(s, i, b);
+        if e == 0 {
+            return other;
         }
+        end = past_code(t, end, e / 16);
+        i += (e % 16) as usize;
     }
+    end
 }
 
 // How many bytes are left, unescaped, of a string that goes on at a position, if a text begins with them; one more than the text has if it does not, or the string
@@ -290,44 +359,6 @@ pub fn begun(s: &[u8], from: usize, t: &[u8]) -> usize
         i += 1;
         n += 1;
     }
-}
-
-// A weight for two bytes that differ or are not plain, and nothing for a plain byte twice.
-fn apart(b: u8, d: u8, w: u16) -> u16
-    ensures { λ r. ⌜ r ≡ w * pick (twice b d) 0 1 ⌝ }
-{
-    if b != d {
-        return w;
-    }
-    if text::plain(b) { 0 } else { w }
-}
-
-// The 8 bytes at two positions as binary digits, the first the lowest: 1 where they differ or are not plain, and a 1 above them; three times that, as the plain bytes are told.
-fn pair_marks(s: &[u8], i: usize, k: usize) -> u16
-    requires { ⌜ (i + 8 ≤ length (now s)) × (k + 8 ≤ length (now s)) ⌝ }
-    ensures { λ r. ⌜ r ≡ 3 * marksOf (twiceAt (now (s .entry)) i (now (s .entry)) k) 0 8 ⌝ }
-{
-    let mut m: u16 = 0;
-    let mut w: u16 = 3;
-    for j in 0..8 {
-        m += apart(s[i + j], s[k + j], w);
-        w *= 2;
-    }
-    m + w
-}
-
-// How many plain bytes at two positions are the same, of 8 at most; near the end of the text none are counted.
-fn alike(s: &[u8], i: usize, k: usize) -> usize
-    requires { ⌜ (i ≤ length (now s)) × (k ≤ length (now s)) ⌝ }
-    ensures { λ r. ⌜ Alike (now (s .entry)) i (now (s .entry)) k r ⌝ }
-{
-    if s.len() - i < 8 {
-        return 0;
-    }
-    if s.len() - k < 8 {
-        return 0;
-    }
-    text::lowest(pair_marks(s, i, k))
 }
 
 // 1 for a plain byte twice, so that they can be counted without a branch.
@@ -379,7 +410,40 @@ fn alike_blocks(s: &[u8], i: usize, t: &[u8], k: usize) -> usize
     n
 }
 
-// How many bytes can be passed at two positions, where b and d stand, since they are the same and are whole characters that stand for them; 0 where the characters are to be read.
+// How many bytes can be passed at two positions, each with a backslash, since both are one escape of two bytes; 0 where they are to be read.
+fn short_twice(s: &[u8], i: usize, k: usize) -> usize
+    requires { ⌜ (peek (now s) i ≡ 92) × (peek (now s) k ≡ 92) ⌝ }
+    ensures { λ r. ⌜ Passed (now (s .entry)) i k r ⌝ }
+{
+    if text::short(s, i) == 0 {
+        return 0;
+    }
+    if text::byte(s, i + 1) != text::byte(s, k + 1) {
+        return 0;
+    }
+    2
+}
+
+// The same where a backslash stands at both: by the letter after it, or by the number of a longer escape, which tells how many bytes it has.
+fn escape_twice(s: &[u8], i: usize, k: usize) -> usize
+    requires { ⌜ (peek (now s) i ≡ 92) × (peek (now s) k ≡ 92) ⌝ }
+    ensures { λ r. ⌜ Passed (now (s .entry)) i k r ⌝ }
+{
+    let n = short_twice(s, i, k);
+    if 0 < n {
+        return n;
+    }
+    let e = text::long(s, i);
+    if e == 0 {
+        return 0;
+    }
+    if e != text::long(s, k) {
+        return 0;
+    }
+    (e % 16) as usize
+}
+
+// How many bytes can be passed at two positions, where b and d stand, since they are the same and are whole characters; 0 where the characters are to be read.
 fn row(s: &[u8], i: usize, k: usize, b: u32, d: u32) -> usize
     requires { ⌜ (b ≡ peek (now s) i) × (d ≡ peek (now s) k) × (b ≡ 34 → ⊥) ⌝ }
     ensures { λ r. ⌜ Passed (now (s .entry)) i k r ⌝ }
@@ -387,13 +451,17 @@ fn row(s: &[u8], i: usize, k: usize, b: u32, d: u32) -> usize
     if b != d {
         return 0;
     }
+    if b == 92 {
+        return escape_twice(s, i, k);
+    }
     if ordinary(b) {
-        return alike(s, i + 1, k + 1) + 1;
+        return 1;
     }
     raw_alike(s, i, s, k, b)
 }
 
-// What is left of two strings from two positions on is one text; false where either goes wrong. Equal texts have equal characters; those that stand for their own bytes are compared in a row.
+// What is left of two strings from two positions on is one text; false where either goes wrong. Equal texts have equal characters; those that are written alike in both
+// are not read.
 fn same_rest(s: &[u8], p: usize, q: usize) -> bool
     ensures { λ r. ⌜ r ≡ bothText (rest (now (s .entry)) p) (rest (now (s .entry)) q) ⌝ }
 {
@@ -414,19 +482,19 @@ fn same_rest(s: &[u8], p: usize, q: usize) -> bool
             k += n;
             continue;
         }
-        match text::character(s, i) {
-            text::Code::Of(v, j) => match text::character(s, k) {
-                text::Code::Of(w, l) => {
-                    if v != w {
-                        return false;
-                    }
-                    i = j;
-                    k = l;
-                }
-                text::Code::No(_) => return false,
-            },
-            text::Code::No(_) => return false,
+        let e = code_at(s, i, b);
+        if e == 0 {
+            return false;
         }
+        let f = code_at(s, k, d);
+        if f == 0 {
+            return false;
+        }
+        if e / 16 != f / 16 {
+            return false;
+        }
+        i += (e % 16) as usize;
+        k += (f % 16) as usize;
     }
 }
 

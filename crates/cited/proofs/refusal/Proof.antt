@@ -1,69 +1,17 @@
--- `cited::refusal` meets its contract: the table is handed out as it was found, and the rules are asked in their order.
+-- `cited::refusal` meets its contract: what is known of the paths is handed out as it was found, and the rules are judged by it.
 -- Assumes nothing.
-use Rattle.index.specs.Index.{manifestOf}
-use Rattle.cited.specs.laws.Order.{is-19, is-20, is-21, is-22, is-23, is-24, is-0}
 use borrow.Author.Needs.{needs}
 use Rattle.cited.proofs.refusal.Statement.{statement}
 use Rattle.cited.proofs.refusal.Tie as tie
 
-cites-requires : tie.Need-cites-requires
-cites-requires c κs = search needs
+paths-requires : tie.Need-paths-requires
+paths-requires c κs = search needs
 
-refusal-19-file-names-no-entry-requires : tie.Need-refusal-19-file-names-no-entry-requires
-refusal-19-file-names-no-entry-requires c κs = search needs
+first-rule-requires : tie.Need-first-rule-requires
+first-rule-requires c κs = (c .before .before .paths .ensures .0, c .before .before .paths .ensures .1 .0)
 
 returns : tie.Need-returns
-returns c = (is-19 (manifestOf (c .before .before .before .before .before .args .s .now) (c .before .before .before .before .before .args .ix .now)) (c .before .refusal-19-file-names-no-entry .ensures) (c .if1 .taken), c .before .before .before .cites .ensures)
-
-refusal-20-no-machine-of-a-split-file-requires :
-    tie.Need-refusal-20-no-machine-of-a-split-file-requires
-refusal-20-no-machine-of-a-split-file-requires c κs = search needs
-
-returns-2 : tie.Need-returns-2
-returns-2 c = (is-20 (manifestOf (c .before .before .before .before .before .before .before .before .args .s .now) (c .before .before .before .before .before .before .before .before .args .ix .now)) (c .before .before .before .before .refusal-19-file-names-no-entry .ensures) (c .before .before .before .if1 .left) (c .before .refusal-20-no-machine-of-a-split-file .ensures) (c .if2 .taken), c .before .before .before .before .before .before .cites .ensures)
-
-refusal-21-machine-not-declared-requires : tie.Need-refusal-21-machine-not-declared-requires
-refusal-21-machine-not-declared-requires c κs = search needs
-
-returns-3 : tie.Need-returns-3
-returns-3 c = (is-21 (manifestOf (c .before .before .before .before .before .before .before .before .before .before .before .args .s .now) (c .before .before .before .before .before .before .before .before .before .before .before .args .ix .now)) (c .before .before .before .before .before .before .before .refusal-19-file-names-no-entry .ensures) (c .before .before .before .before .before .before .if1 .left) (c .before .before .before .before .refusal-20-no-machine-of-a-split-file .ensures) (c .before .before .before .if2 .left) (c .before .refusal-21-machine-not-declared .ensures) (c .if3 .taken), c .before .before .before .before .before .before .before .before .before .cites .ensures)
-
-refusal-22-offset-not-an-integer-requires : tie.Need-refusal-22-offset-not-an-integer-requires
-refusal-22-offset-not-an-integer-requires c κs = search needs
-
-returns-4 : tie.Need-returns-4
-returns-4 c = (is-22 (manifestOf (c .before .before .before .before .before .before .before .before .before .before .before .before .before .args .s .now) (c .before .before .before .before .before .before .before .before .before .before .before .before .before .args .ix .now)) (c .before .before .before .before .before .before .before .before .before .refusal-19-file-names-no-entry .ensures) (c .before .before .before .before .before .before .before .before .if1 .left) (c .before .before .before .before .before .before .refusal-20-no-machine-of-a-split-file .ensures) (c .before .before .before .before .before .if2 .left) (c .before .before .before .refusal-21-machine-not-declared .ensures) (c .before .before .if3 .left) (c .before .refusal-22-offset-not-an-integer .ensures) (c .if4 .taken), c .before .before .before .before .before .before .before .before .before .before .before .cites .ensures)
-
-refusal-23-offset-out-of-range-requires : tie.Need-refusal-23-offset-out-of-range-requires
-refusal-23-offset-out-of-range-requires c κs = search needs
-
-returns-5 : tie.Need-returns-5
-returns-5 c = (is-23 (manifestOf (c .before .before .before .before .before .before .before .before .before .before .before .before .before .before .before .args .s .now) (c .before .before .before .before .before .before .before .before .before .before .before .before .before .before .before .args .ix .now)) (c .before .before .before .before .before .before .before .before .before .before .before .refusal-19-file-names-no-entry .ensures) (c .before .before .before .before .before .before .before .before .before .before .if1 .left) (c .before .before .before .before .before .before .before .before .refusal-20-no-machine-of-a-split-file .ensures) (c .before .before .before .before .before .before .before .if2 .left) (c .before .before .before .before .before .refusal-21-machine-not-declared .ensures) (c .before .before .before .before .if3 .left) (c .before .before .before .refusal-22-offset-not-an-integer .ensures) (c .before .before .if4 .left) (c .before .refusal-23-offset-out-of-range .ensures) (c .if5 .taken), c .before .before .before .before .before .before .before .before .before .before .before .before .before .cites .ensures)
-
-refusal-24-clock-related-to-itself-requires : tie.Need-refusal-24-clock-related-to-itself-requires
-refusal-24-clock-related-to-itself-requires c κs = search needs
-
-returns-6 : tie.Need-returns-6
-returns-6 c = (is-24 (manifestOf (c .before .before .before .before .before .before .before .before .before .before .before .before .before .before .before .before .before .before .args .s .now) (c .before .before .before .before .before .before .before .before .before .before .before .before .before .before .before .before .before .before .args .ix .now)) (c .before .before .before .before .before .before .before .before .before .before .before .before .before .before .refusal-19-file-names-no-entry .ensures) (c .before .before .before .before .before .before .before .before .before .before .before .before .before .if1 .left) (c .before .before .before .before .before .before .before .before .before .before .before .refusal-20-no-machine-of-a-split-file .ensures) (c .before .before .before .before .before .before .before .before .before .before .if2 .left) (c .before .before .before .before .before .before .before .before .refusal-21-machine-not-declared .ensures) (c .before .before .before .before .before .before .before .if3 .left) (c .before .before .before .before .before .before .refusal-22-offset-not-an-integer .ensures) (c .before .before .before .before .before .if4 .left) (c .before .before .before .before .refusal-23-offset-out-of-range .ensures) (c .before .before .before .if5 .left) (c .before .refusal-24-clock-related-to-itself .ensures) (c .if6 .taken), c .before .before .before .before .before .before .before .before .before .before .before .before .before .before .before .before .cites .ensures)
-
-returns-7 : tie.Need-returns-7
-returns-7 c = (is-0 (manifestOf (c .before .before .before .before .before .before .before .before .before .before .before .before .before .before .before .before .before .before .args .s .now) (c .before .before .before .before .before .before .before .before .before .before .before .before .before .before .before .before .before .before .args .ix .now)) (c .before .before .before .before .before .before .before .before .before .before .before .before .before .before .refusal-19-file-names-no-entry .ensures) (c .before .before .before .before .before .before .before .before .before .before .before .before .before .if1 .left) (c .before .before .before .before .before .before .before .before .before .before .before .refusal-20-no-machine-of-a-split-file .ensures) (c .before .before .before .before .before .before .before .before .before .before .if2 .left) (c .before .before .before .before .before .before .before .before .refusal-21-machine-not-declared .ensures) (c .before .before .before .before .before .before .before .if3 .left) (c .before .before .before .before .before .before .refusal-22-offset-not-an-integer .ensures) (c .before .before .before .before .before .if4 .left) (c .before .before .before .before .refusal-23-offset-out-of-range .ensures) (c .before .before .before .if5 .left) (c .before .refusal-24-clock-related-to-itself .ensures) (c .if6 .left), c .before .before .before .before .before .before .before .before .before .before .before .before .before .before .before .before .cites .ensures)
+returns c = (c .first-rule .ensures, (c .before .before .before .paths .ensures .0, (c .before .before .before .paths .ensures .1 .0, (c .before .before .before .paths .ensures .1 .1 .0, (c .before .before .before .paths .ensures .1 .1 .1 .0, c .before .before .before .paths .ensures .1 .1 .1 .1)))))
 
 pub refusal-spec : {M : Type 1} → statement M
-refusal-spec =
-    tie.close
-    (tie.spec
-    cites-requires
-    refusal-19-file-names-no-entry-requires
-    returns
-    refusal-20-no-machine-of-a-split-file-requires
-    returns-2
-    refusal-21-machine-not-declared-requires
-    returns-3
-    refusal-22-offset-not-an-integer-requires
-    returns-4
-    refusal-23-offset-out-of-range-requires
-    returns-5
-    refusal-24-clock-related-to-itself-requires
-    returns-6
-    returns-7)
+refusal-spec = tie.close (tie.spec paths-requires first-rule-requires returns)

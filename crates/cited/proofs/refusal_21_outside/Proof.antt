@@ -1,5 +1,6 @@
--- `cited::refusal_21_outside` meets its contract: its `file` and `machine` count only where `trace_time` stands.
+-- `cited::refusal_21_outside` meets its contract: `trace_time` counts only where it stands; which entry its `file` names is known.
 -- Assumes nothing.
+use Rattle.cited.specs.laws.Files.{named-by-trace}
 use Rattle.cited.specs.laws.Rule21.{strange-by-entry, no-trace-21, trace-21-said}
 use borrow.Author.Needs.{needs}
 use Rattle.cited.proofs.refusal_21_outside.Statement.{statement}
@@ -11,12 +12,6 @@ element-copy-out-if1 c = search needs
 returns : tie.Need-returns
 returns c = no-trace-21 (c .before .before .before .args .s .now) (c .before .before .before .args .ix .now) (c .if1 .taken)
 
-element-copy-out-cited-entry : tie.Need-element-copy-out-cited-entry
-element-copy-out-cited-entry c = search needs
-
-cited-entry-requires : tie.Need-cited-entry-requires
-cited-entry-requires c κs = search needs
-
 element-copy-out-machine : tie.Need-element-copy-out-machine
 element-copy-out-machine c = search needs
 
@@ -24,16 +19,7 @@ is-strange-requires : tie.Need-is-strange-requires
 is-strange-requires c κs = search needs
 
 returns-2 : tie.Need-returns-2
-returns-2 c = trace-21-said (c .before .before .before .before .before .before .before .args .s .now) (c .before .before .before .before .before .before .before .args .ix .now) (c .before .before .before .before .if1 .left) (strange-by-entry (c .before .before .before .before .before .before .before .args .s .now) (c .before .before .before .before .before .before .before .args .ix .now) (c .before .before .cited-entry .result) _ _ (c .before .before .cited-entry .ensures) (c .is-strange .ensures))
+returns-2 c = trace-21-said (c .before .before .before .before .before .args .s .now) (c .before .before .before .before .before .args .ix .now) (c .before .before .if1 .left) (strange-by-entry (c .before .before .before .before .before .args .s .now) (c .before .before .before .before .before .args .ix .now) (c .before .before .before .before .before .args .trace) _ _ (named-by-trace (c .before .before .before .before .before .args .s .now) (c .before .before .before .before .before .args .ix .now) (c .before .before .before .before .before .pre)) (c .is-strange .ensures))
 
 pub refusal-21-outside-spec : {M : Type 1} → statement M
-refusal-21-outside-spec =
-    tie.close
-    (tie.spec
-    element-copy-out-if1
-    returns
-    element-copy-out-cited-entry
-    cited-entry-requires
-    element-copy-out-machine
-    is-strange-requires
-    returns-2)
+refusal-21-outside-spec = tie.close (tie.spec element-copy-out-if1 returns element-copy-out-machine is-strange-requires returns-2)

@@ -4,6 +4,7 @@ use mathlib.Core.Bool.{Bool, true, false, not}
 use mathlib.Core.List.{List}
 use Prim.Native.Nat.{ℕ, _≤_, _<_}
 use native.Mathlib.Omega.{arith}
+use native.Mathlib.Decide.{ℕ-discrete}
 use lib.Dec.{ltb}
 use lib.ListN.{getD}
 use borrow.Author.Tests.{eq-eqb, ne-eqb, lt-ltb, le-ltb}
@@ -13,7 +14,7 @@ use Rattle.manifest.specs.View.{Cell, absent, one}
 use Rattle.manifest.specs.Rows.{Entry, is-absent, holds}
 use Rattle.manifest.specs.Rules.{named-entry, no-entry}
 use Rattle.index.specs.Index.{textAt, colOf, at, textCell, entryAt, manifestOf}
-use Rattle.finds.specs.Finds.{entryOf, citesOf}
+use Rattle.finds.specs.Finds.{entryOf, citesOf, traceCited}
 use Rattle.finds.specs.Theorems.{find-is, named-entry-is}
 use Rattle.finds.specs.laws.Cites.{cited-some, cites-at, cites-right}
 use Rattle.cited.specs.laws.Cells.{holds-none, holds-some}
@@ -56,6 +57,20 @@ module _ (s : Text) (ix : List ℕ) (p : ℕ) where
         go : (b : Bool) → is-absent (pick {A = Cell (ℕ × Entry)} b (one (e, entryAt s ix e)) absent) ≡ not b
         go true = refl
         go false = refl
+
+-- the `file` of `trace_time`, where it is known which entry it names
+module _ (s : Text) (ix : List ℕ) {e : ℕ} (et : e ≡ traceCited s ix) where
+  pub named-by-trace : named-entry (manifestOf s ix) (textCell s (getD ix 3 0)) ≡ foundAt s ix e
+  unfolding traceCited
+  named-by-trace = go (ℕ-discrete (getD ix 3 0) 0)
+    where
+      go : Dec (getD ix 3 0 ≡ 0) → named-entry (manifestOf s ix) (textCell s (getD ix 3 0)) ≡ foundAt s ix e
+      go (yes z) = named-none s ix (getD ix 3 0) z ∙ ap (foundAt s ix) (sym (et ∙ pick-true 32 _ (eq-eqb (getD ix 3 0) 0 z)))
+      go (no n) = named-some s ix (getD ix 3 0) n (et ∙ pick-false 32 _ (ne-eqb (getD ix 3 0) 0 n))
+
+  pub cites-by-trace : (getD ix 3 0 ≡ 0 → ⊥) → not (ltb e 32) ≡ holds (no-entry (manifestOf s ix)) (textCell s (getD ix 3 0))
+  unfolding traceCited
+  cites-by-trace n = cites-some s ix (getD ix 3 0) n (et ∙ pick-false 32 _ (ne-eqb (getD ix 3 0) 0 n))
 
 -- the `file` of the `sync_to` of entry i, by the table
 module _ (s : Text) (ix : List ℕ) (i : ℕ) {cites : List ℕ} (below : i < 32) (ec : cites ≡ citesOf s ix) where

@@ -11,7 +11,7 @@ returns : tie.Need-returns
 returns c = sym (row-none _ 6 _ _ (c .if1 .taken))
 
 path-entry-requires : tie.Need-path-entry-requires
-path-entry-requires c κs = (c .before .before .before .before .pre .1, c .before .before .before .before .pre .4)
+path-entry-requires c κs = c .before .before .before .before .pre .1
 
 tie-requires : tie.Need-tie-requires
 tie-requires c κs = search needs
@@ -37,8 +37,8 @@ element-copy-out-small c = omega (arith, c .before .before .before .before .befo
 small-requires-3 : tie.Need-small-requires-3
 small-requires-3 c κs = search needs
 
-cast-t22 : tie.Need-cast-t22
-cast-t22 c = omega (arith, c .before .before .before .before .before .before .before .before .path-entry .ensures .1)
+cast-t21 : tie.Need-cast-t21
+cast-t21 c = omega (arith, c .before .before .before .before .before .before .before .before .path-entry .ensures .1)
 
 returns-2 : tie.Need-returns-2
 returns-2 c = file-made (c .before .before .before .before .before .before .before .before .before .before .before .before .before .args .s .now) (c .before .before .before .before .before .before .before .before .before .before .before .before .before .args .ix .now) (c .before .before .before .before .before .before .before .before .before .before .before .before .before .args .lookups .now) (c .before .before .before .before .before .before .before .before .before .before .before .before .before .args .b .now) (c .before .before .before .before .before .before .before .before .before .before .before .before .before .args .t) (c .before .before .before .before .before .before .before .before .before .before .before .before .before .args .f) (c .before .before .before .before .before .before .before .before .before .before .before .before .before .args .at) (c .before .before .before .before .before .before .before .before .before .if1 .left) (c .before .before .before .before .before .before .before .before .before .before .before .before .before .pre .2 (c .before .before .before .before .before .before .before .before .before .if1 .left)) (c .before .before .before .before .before .before .before .before .path-entry .ensures .0) (c .before .before .before .before .before .before .before .tie .ensures) (c .before .before .before .before .before .before .base .ensures) (c .before .before .before .before .before .small .ensures) (c .before .before .before .before .head-at .ensures) (c .before .before .before .flag .ensures) (c .before .before .small2 .ensures) (flag-at (c .before .before .before .before .before .before .before .before .before .before .before .before .before .pre .3) (c .before .before .before .before .before .before .before .before .before .before .before .before .before .args .s .now) (c .before .before .before .before .before .before .before .before .before .before .before .before .before .args .ix .now) (c .before .before .before .before .before .before .before .before .before .before .before .before .before .args .lookups .now) (c .before .before .before .before .before .before .before .before .before .before .before .before .before .args .f) (omega (arith, c .before .before .before .before .before .before .before .before .before .before .before .before .before .pre .0 .few-files)) (c .small3 .ensures))
@@ -57,5 +57,5 @@ file-row-spec =
     small-requires-2
     element-copy-out-small
     small-requires-3
-    cast-t22
+    cast-t21
     returns-2)

@@ -1,4 +1,4 @@
--- `head_row`: each count is at most 32. The slice of the table tells that it has 96 numbers. Assumes nothing.
+-- `head_row`: each count is at most 32. The slice of the table tells that it has 129 numbers. Assumes nothing.
 use Rattle.gather.proofs.Steps.{few-names, head-made}
 use Rattle.finds.specs.laws.Paths.{few-entries}
 use native.Mathlib.Omega.{arith}

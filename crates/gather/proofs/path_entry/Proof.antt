@@ -13,10 +13,10 @@ use Rattle.gather.proofs.path_entry.Statement.{statement}
 use Rattle.gather.proofs.path_entry.Tie as tie
 
 abbrev Inv-loop : tie.InvT-loop
-Inv-loop s ix prints b at n path₀ i₀ path i = (i % 8 ≡ 0) × (n ≤ 255) × (length path ≡ 256) × (take i path ≡ bytesAt b (at + 15) i)
+Inv-loop s ix lookups b at n path₀ i₀ path i = (i % 8 ≡ 0) × (n ≤ 255) × (length path ≡ 256) × (take i path ≡ bytesAt b (at + 15) i)
 
 abbrev μ-loop : tie.MeasureT-loop
-μ-loop s ix prints b at n path₀ i₀ path i = n - i
+μ-loop s ix lookups b at n path₀ i₀ path i = n - i
 
 head-at-requires : tie.Need-head-at-requires Inv-loop μ-loop
 head-at-requires c κs = search needs
@@ -58,10 +58,10 @@ part-listing-end : tie.Need-part-listing-end Inv-loop μ-loop
 part-listing-end c = omega arith
 
 listing-requires : tie.Need-listing-requires Inv-loop μ-loop
-listing-requires c κs = c .before .before .before .before .before .before .before .before .pre .1
+listing-requires c κs = search needs
 
 returns : tie.Need-returns Inv-loop μ-loop
-returns c = entry-at (c .before .before .before .before .before .before .before .before .before .args .s .now) (c .before .before .before .before .before .before .before .before .before .args .ix .now) (c .before .before .before .before .before .before .before .before .before .args .b .now) (c .before .before .before .before .before .before .before .before .before .args .at) (c .before .before .before .before .before .before .head-at .ensures) (c .before .before .before .before .before .long .ensures .0) _ (c .before .before .before .loop-test .left) (c .before .before .before .before .loop .inv .3) (c .listing .ensures)
+returns c = entry-at (c .before .before .before .before .before .before .before .before .before .args .s .now) (c .before .before .before .before .before .before .before .before .before .args .ix .now) (c .before .before .before .before .before .before .before .before .before .args .lookups .now) (c .before .before .before .before .before .before .before .before .before .args .b .now) (c .before .before .before .before .before .before .before .before .before .args .at) (c .before .before .before .before .before .before .head-at .ensures) (c .before .before .before .before .before .long .ensures .0) _ (c .before .before .before .loop-test .left) (c .before .before .before .before .loop .inv .3) (c .listing .ensures)
 
 pub path-entry-spec : {M : Type 1} → statement M
 path-entry-spec =

@@ -12,34 +12,31 @@ use Rattle.gather.proofs.put_files.Statement.{statement}
 use Rattle.gather.proofs.put_files.Tie as tie
 
 abbrev Inv-loop : tie.InvT-loop
-Inv-loop s ix lookups b t out₀ places prints recorded f₀ out f = (f ≤ 32) × Put out₀ 4 (rows (rowIn (t .files) 6 (fileRow s ix lookups b t)) f) out
+Inv-loop s ix lookups b t out₀ places recorded f₀ out f = (f ≤ 32) × Put out₀ 4 (rows (rowIn (t .files) 6 (fileRow s ix lookups b t)) f) out
 
 abbrev μ-loop : tie.MeasureT-loop
-μ-loop s ix lookups b t out₀ places prints recorded f₀ out f = 32 - f
+μ-loop s ix lookups b t out₀ places recorded f₀ out f = 32 - f
 
 file-places-requires : tie.Need-file-places-requires Inv-loop μ-loop
 file-places-requires c κs = search needs
 
-path-prints-requires : tie.Need-path-prints-requires Inv-loop μ-loop
-path-prints-requires c κs = search needs
-
 recorded-files-requires : tie.Need-recorded-files-requires Inv-loop μ-loop
-recorded-files-requires c κs = c .before .before .before .before .pre .0
+recorded-files-requires c κs = c .before .before .before .pre .0
 
 loop-holds : tie.Need-loop-holds Inv-loop μ-loop
-loop-holds c = (omega arith, rows-start 6 _ (file-length (c .before .before .before .before .before .args .s .now) (c .before .before .before .before .before .args .ix .now) (c .before .before .before .before .before .args .lookups .now) (c .before .before .before .before .before .args .b .now) (c .before .before .before .before .before .args .t)) 4 (omega (arith, c .before .before .before .before .before .pre .1)))
+loop-holds c = (omega arith, rows-start 6 _ (file-length (c .before .before .before .before .args .s .now) (c .before .before .before .before .args .ix .now) (c .before .before .before .before .args .lookups .now) (c .before .before .before .before .args .b .now) (c .before .before .before .before .args .t)) 4 (omega (arith, c .before .before .before .before .pre .1)))
 
 mul-wide : tie.Need-mul-wide Inv-loop μ-loop
 mul-wide c = search needs
 
 array-read-wide : tie.Need-array-read-wide Inv-loop μ-loop
-array-read-wide c = omega (arith, places-length (c .before .before .before .before .before .before .before .args .b .now) _ (c .before .before .before .before .file-places .ensures))
+array-read-wide c = omega (arith, places-length (c .before .before .before .before .before .before .args .b .now) _ (c .before .before .before .file-places .ensures))
 
 wide-requires : tie.Need-wide-requires Inv-loop μ-loop
 wide-requires c κs = search needs
 
 file-row-requires : tie.Need-file-row-requires Inv-loop μ-loop
-file-row-requires c κs = (c .before .before .before .before .before .before .before .before .before .before .pre .0, omega (arith, c .before .before .wide .ensures .1), place-is (c .before .before .before .before .before .before .before .before .before .before .args .b .now) (c .before .before .before .before .before .before .before .before .before .before .args .t) _ (c .before .before .before .before .before .before .before .before .before .before .pre .0) (c .before .before .before .before .before .before .before .file-places .ensures) (c .before .before .wide .ensures .0), c .before .before .before .before .before .recorded-files .ensures, c .before .before .before .before .before .before .path-prints .ensures)
+file-row-requires c κs = (c .before .before .before .before .before .before .before .before .pre .0, omega (arith, c .before .wide .ensures .1), place-is (c .before .before .before .before .before .before .before .before .args .b .now) (c .before .before .before .before .before .before .before .before .args .t) _ (c .before .before .before .before .before .before .before .before .pre .0) (c .before .before .before .before .before .file-places .ensures) (c .before .wide .ensures .0), c .before .before .before .before .recorded-files .ensures)
 
 mul-store : tie.Need-mul-store Inv-loop μ-loop
 mul-store c = omega arith
@@ -51,7 +48,7 @@ slice-aggregate-store : tie.Need-slice-aggregate-store Inv-loop μ-loop
 slice-aggregate-store c = search needs
 
 store-requires : tie.Need-store-requires Inv-loop μ-loop
-store-requires c κs = (put-length (c .before .before .before .before .before .before .before .loop .inv .1) ∙ c .before .before .before .before .before .before .before .before .before .before .before .before .before .pre .1, omega arith)
+store-requires c κs = (put-length (c .before .before .before .before .before .before .loop .inv .1) ∙ c .before .before .before .before .before .before .before .before .before .before .before .pre .1, omega arith)
 
 add-f : tie.Need-add-f Inv-loop μ-loop
 add-f c = search needs
@@ -60,10 +57,10 @@ loop-less : tie.Need-loop-less Inv-loop μ-loop
 loop-less c = search needs
 
 loop-again : tie.Need-loop-again Inv-loop μ-loop
-loop-again c = (omega arith, rows-more 6 _ (file-length (c .before .before .before .before .before .before .before .before .before .before .before .before .before .before .args .s .now) (c .before .before .before .before .before .before .before .before .before .before .before .before .before .before .args .ix .now) (c .before .before .before .before .before .before .before .before .before .before .before .before .before .before .args .lookups .now) (c .before .before .before .before .before .before .before .before .before .before .before .before .before .before .args .b .now) (c .before .before .before .before .before .before .before .before .before .before .before .before .before .before .args .t)) 4 _ (c .before .before .before .before .before .before .before .before .loop .inv .1) (c .before .before .before .file-row .ensures) (c .store .ensures))
+loop-again c = (omega arith, rows-more 6 _ (file-length (c .before .before .before .before .before .before .before .before .before .before .before .before .args .s .now) (c .before .before .before .before .before .before .before .before .before .before .before .before .args .ix .now) (c .before .before .before .before .before .before .before .before .before .before .before .before .args .lookups .now) (c .before .before .before .before .before .before .before .before .before .before .before .before .args .b .now) (c .before .before .before .before .before .before .before .before .before .before .before .before .args .t)) 4 _ (c .before .before .before .before .before .before .before .loop .inv .1) (c .before .before .before .file-row .ensures) (c .store .ensures))
 
 returns : tie.Need-returns Inv-loop μ-loop
-returns c = rows-end 6 _ (file-length (c .before .before .before .before .before .before .before .args .s .now) (c .before .before .before .before .before .before .before .args .ix .now) (c .before .before .before .before .before .before .before .args .lookups .now) (c .before .before .before .before .before .before .before .args .b .now) (c .before .before .before .before .before .before .before .args .t)) 4 _ (c .before .loop .inv .0) (c .loop-test .left) (c .before .loop .inv .1)
+returns c = rows-end 6 _ (file-length (c .before .before .before .before .before .before .args .s .now) (c .before .before .before .before .before .before .args .ix .now) (c .before .before .before .before .before .before .args .lookups .now) (c .before .before .before .before .before .before .args .b .now) (c .before .before .before .before .before .before .args .t)) 4 _ (c .before .loop .inv .0) (c .loop-test .left) (c .before .loop .inv .1)
 
 pub put-files-spec : {M : Type 1} → statement M
 put-files-spec =
@@ -72,7 +69,6 @@ put-files-spec =
     Inv-loop
     μ-loop
     file-places-requires
-    path-prints-requires
     recorded-files-requires
     loop-holds
     mul-wide

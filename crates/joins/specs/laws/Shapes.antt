@@ -21,13 +21,13 @@ use Rattle.manifest.specs.Statements.{At, here, further, All, all-one, Meets, s
 use Rattle.manifest.specs.laws.Accepted.{entries-sound}
 use Rattle.outline.specs.Outline.{domainAt}
 use Rattle.index.specs.Index.{textAt, colOf, entriesIn, at, textCell, syncBy, clocksBy, entryBy, itemsFrom, entryAt, manifestOf}
-use Rattle.finds.specs.Finds.{entryOf, nameFor, baseAt, lookups}
+use Rattle.finds.specs.Finds.{entryOf, nameFor, lookups}
 use Rattle.finds.specs.Theorems.{find-is, name-is}
 use Rattle.named.specs.Named.{numberAt}
 use Rattle.meant.specs.declared.Owned.the-variants.{Nobody, Whole, Split}
 use Rattle.meant.specs.declared.Part.{Part}
 use Rattle.meant.specs.declared.Part.the-variants.{Undeclared, Of}
-use Rattle.meant.specs.Meant.{baseOf, ownedOf, partOf, citedAt, relatedTo, linkOf}
+use Rattle.meant.specs.Meant.{baseOf, ownedOf, partOf, citedName, citedAt, relatedTo, linkOf}
 use Rattle.meant.specs.Told.{toldOwned, partWith, toldPart}
 use Rattle.meant.specs.laws.Listings.{entry-at}
 use Rattle.meant.specs.laws.Parts.{partNamed}
@@ -167,7 +167,7 @@ module _ (s : Text) (ix : List ℕ) (i : ℕ) where
   unfolding citedAt cited clockAt at pick tieFrom
   cited-tie clock machine = go (eqb clock 0)
     where
-      go : (b : Bool) → tieFrom (pick b (Private i) (Domain (domainAt s clock) (numberAt s (lookups s ix) (pick (eqb machine 0) (baseAt s ix i) machine))))
+      go : (b : Bool) → tieFrom (pick b (Private i) (Domain (domainAt s clock) (numberAt s (lookups s ix) (citedName s ix i machine))))
           ≡ tieFrom (cited (names-in (manifestOf s ix)) (clockAt i (entryAt s ix i) (pick b absent (one (textAt s clock))) (textCell s machine)))
       go true = refl
       go false = refl

@@ -23,7 +23,7 @@ number-at-requires : tie.Need-number-at-requires
 number-at-requires c κs = search needs
 
 returns-2 : tie.Need-returns-2
-returns-2 c = timeline-set (c .before .before .before .before .before .before .before .args .s .now) (c .before .before .before .before .before .before .before .args .ix .now) (c .before .before .before .before .before .before .before .args .lookups .now) (c .before .before .before .before .if1 .left) (c .before .before .domain .ensures) (c .before .trace-machine-at .ensures (c .before .before .before .before .before .before .before .args .lookups .now)) (c .number-at .ensures)
+returns-2 c = timeline-set (c .before .before .before .before .before .before .before .args .s .now) (c .before .before .before .before .before .before .before .args .ix .now) (c .before .before .before .before .before .before .before .args .lookups .now) (c .before .before .before .before .if1 .left) (c .before .before .domain .ensures) (c .before .trace-machine-at .ensures) (c .number-at .ensures)
 
 pub timeline-spec : {M : Type 1} → statement M
 timeline-spec =

@@ -1,7 +1,7 @@
 -- The clocks that an entry relates: those that its members name in the tables are those of the meaning. Assumes nothing.
 use mathlib.Core.Path.{_≡_, refl, sym, ap, _∙_}
-use mathlib.Core.Bool.{Bool, true, false}
-use mathlib.Core.List.{List}
+use mathlib.Core.Bool.{Bool, true, false, _||_}
+use mathlib.Core.List.{List, [], _++_}
 use Prim.Native.Nat.{ℕ, _+_, _-_, _≤_, _<_}
 use native.Mathlib.Omega.{arith}
 use native.Mathlib.Decide.{decLt}
@@ -16,8 +16,8 @@ use Rattle.manifest.specs.declared.Relation.{Relation}
 use Rattle.manifest.specs.declared.Link.{Link}
 use Rattle.manifest.specs.declared.Link.the-variants.{Unrelated, Related}
 use Rattle.manifest.specs.View.{Cell, absent, one}
-use Rattle.manifest.specs.Rows.{Manifest, Entry, Clocks, SyncTo, syncTo, sync-file, offset, the, any, onto, holds, entries, its-clocks}
-use Rattle.manifest.specs.Rules.{Rule, applies, rules, refusal-5-or-later, host, called, cited-or, base, clockAt, source, reference, domain, find, named-entry, no-integer, too-far, refusal-22-offset-not-an-integer, refusal-23-offset-out-of-range}
+use Rattle.manifest.specs.Rows.{Manifest, Entry, Clocks, SyncTo, syncTo, sync-file, sync-machine, own-machine, offset, the, any, flat, onto, holds, entries, its-clocks, its-syncs}
+use Rattle.manifest.specs.Rules.{Rule, applies, rules, refusal-5-or-later, host, called, cited-or, base, clockAt, source, reference, domain, find, named-entry, not-declared, no-integer, too-far, refusal-21-machine-not-declared, refusal-22-offset-not-an-integer, refusal-23-offset-out-of-range}
 use Rattle.manifest.specs.Meaning.{names-in, numberOf, cited, offsetOf, linked, relation}
 use Rattle.manifest.specs.Statements.{All, all-one}
 use Rattle.manifest.specs.laws.Bools.{halves}
@@ -29,8 +29,9 @@ use Rattle.finds.specs.Finds.{entryOf, baseAt, lookups, citedBy, fromOne}
 use Rattle.finds.specs.Theorems.{find-is, base-is}
 use Rattle.named.specs.Named.{numberAt}
 use Rattle.finds.specs.laws.Lookups.{lookups-number, lookups-cited}
-use Rattle.meant.specs.Meant.{citedAt, offsetAt, relatedTo, citesBy, linkOf}
+use Rattle.meant.specs.Meant.{citedName, citedAt, offsetAt, relatedTo, citesBy, linkOf}
 use Rattle.meant.specs.laws.Listings.{entry-at}
+use Rattle.meant.specs.laws.Declared.{base-cited}
 use Rattle.meant.specs.laws.Offsets.{offset-is}
 
 -- ---- texts and machines at positions
@@ -69,17 +70,17 @@ module _ {A : Type 0} (p : ℕ) (a : A) where
       go true h = refl
       go false h = h refl
 
-  linked-by : {B : Type 0} (g : A → Cell B) (f : B → Cell Relation) {x : Link} → x ≡ linked (onto (g a) f) → pick (eqb p 0) Unrelated x ≡ linked (onto (onto (at p (one a)) g) f)
+  linked-by : {B : Type 0} (g : A → Cell B) (f : B → Cell Relation) {x : Link} → (eqb p 0 ≡ false → x ≡ linked (onto (g a) f)) → pick (eqb p 0) Unrelated x ≡ linked (onto (onto (at p (one a)) g) f)
   unfolding at onto linked pick
   linked-by g f {x} = go (eqb p 0)
     where
-      go : (b : Bool) → x ≡ linked (onto (g a) f) → pick b Unrelated x ≡ linked (onto (onto (pick b absent (one a)) g) f)
+      go : (b : Bool) → (b ≡ false → x ≡ linked (onto (g a) f)) → pick b Unrelated x ≡ linked (onto (onto (pick b absent (one a)) g) f)
       go true h = refl
-      go false h = h
+      go false h = h refl
 
-linked-if : {A : Type 0} (b : Bool) (a : A) (f : A → Cell Relation) {x : Link} → x ≡ linked (f a) → pick b x Unrelated ≡ linked (onto (pick b (one a) absent) f)
+linked-if : {A : Type 0} (b : Bool) (a : A) (f : A → Cell Relation) {x : Link} → (b ≡ true → x ≡ linked (f a)) → pick b x Unrelated ≡ linked (onto (pick b (one a) absent) f)
 unfolding onto linked pick
-linked-if true a f h = h
+linked-if true a f h = h refl
 linked-if false a f h = refl
 
 -- the relation, one member after the other
@@ -93,7 +94,10 @@ module _ (m : Manifest) (i : ℕ) (e : Entry) where
   abbrev over-clocks : Clocks → Cell Relation
   over-clocks c = onto (syncTo c) (over-sync c)
 
--- ---- 22 and 23 do not apply
+-- ---- 21, 22 and 23 do not apply
+
+not-21 : (m : Manifest) → All (λ r. applies r m ≡ false) rules → applies refusal-21-machine-not-declared m ≡ false
+not-21 m (all-one a (all-one b (all-one c (all-one d (all-one e (all-one f (all-one g (all-one h (all-one i (all-one j (all-one k (all-one l (all-one n (all-one o (all-one p (all-one q r)))))))))))))))) = q
 
 not-22 : (m : Manifest) → All (λ r. applies r m ≡ false) rules → applies refusal-22-offset-not-an-integer m ≡ false
 not-22 m (all-one a (all-one b (all-one c (all-one d (all-one e (all-one f (all-one g (all-one h (all-one i (all-one j (all-one k (all-one l (all-one n (all-one o (all-one p (all-one q (all-one t r))))))))))))))))) = t
@@ -122,30 +126,78 @@ module _ (s : Text) (ix : List ℕ) {i : ℕ} (below : i < entriesIn ix) where
         (offset-not no-integer (within-not refusal-22-offset-not-an-integer (not-22 (manifestOf s ix) (no-rule (manifestOf s ix) accepted))) e)
         (offset-not too-far (within-not refusal-23-offset-out-of-range (not-23 (manifestOf s ix) (no-rule (manifestOf s ix) accepted))) e)
 
+-- so what a `machine` names is declared: in `clocks` by the entry itself, in `sync_to` by the entry that is cited
+module _ (s : Text) (ix : List ℕ) {i : ℕ} (below : i < entriesIn ix) (accepted : refusal-5-or-later (one (manifestOf s ix)) ≡ 0) where
+  abbrev v : Entry
+  v = entryAt s ix i
+
+  abbrev strange : SyncTo → Bool
+  strange y = holds (λ (p : ℕ × Entry). holds (not-declared (p .1)) (sync-machine y)) (named-entry (manifestOf s ix) (sync-file y))
+
+  rule-21 : refusal-21-machine-not-declared .within (manifestOf s ix) (0 + i) (one v) ≡ false
+  unfolding applies
+  rule-21 =
+      anyAt-false (refusal-21-machine-not-declared .within (manifestOf s ix)) 0
+      (halves (refusal-21-machine-not-declared .outside (manifestOf s ix)) _ (not-21 (manifestOf s ix) (no-rule (manifestOf s ix) accepted)) .1)
+      (entry-at s ix below)
+
+  either-none : (any (λ c. holds (not-declared v) (own-machine c)) (its-clocks v) || any strange (its-syncs v)) ≡ false
+  unfolding refusal-21-machine-not-declared holds
+  either-none = rule-21
+
+  module _ (clocked : eqb (colOf ix i 4) 0 ≡ false) where
+    pub own-declared : holds (not-declared v) (textCell s (colOf ix i 6)) ≡ false
+    unfolding entryAt entryBy clocksBy at the any pick
+    own-declared =
+        halves (holds (not-declared v) (textCell s (colOf ix i 6))) false
+        (sym (ap (λ (b : Bool). any (λ (c : Clocks). holds (not-declared v) (own-machine c)) (the (pick b absent (one (clocksBy s (colOf ix i)))))) clocked)
+        ∙ halves _ (any strange (its-syncs v)) either-none .0) .0
+
+    module _ (synced : eqb (colOf ix i 7) 0 ≡ false) (filed : eqb (colOf ix i 8) 0 ≡ false) where
+      abbrev its : ℕ
+      its = entryOf (manifestOf s ix) (textAt s (colOf ix i 8))
+
+      sync-none : strange (syncBy s (colOf ix i)) ≡ false
+      unfolding entryAt entryBy clocksBy at the flat any pick
+      sync-none =
+          halves (strange (syncBy s (colOf ix i))) false
+          (sym (ap (λ (b : Bool). any strange (the (pick b absent (one (syncBy s (colOf ix i)))) ++ [])) synced)
+          ∙ sym (ap (λ (b : Bool). any strange (flat (λ (c : Clocks). the (syncTo c)) (the (pick b absent (one (clocksBy s (colOf ix i))))))) clocked)
+          ∙ halves (any (λ c. holds (not-declared v) (own-machine c)) (its-clocks v)) _ either-none .1) .0
+
+      pub its-declared : ltb its 32 ≡ true → holds (not-declared (entryAt s ix its)) (textCell s (colOf ix i 9)) ≡ false
+      unfolding syncBy at onto holds pick
+      its-declared found =
+          sym (ap (λ (b : Bool). holds (λ (p : ℕ × Entry). holds (not-declared (p .1)) (textCell s (colOf ix i 9))) (pick {A = Cell (ℕ × Entry)} b (one (its, entryAt s ix its)) absent)) found)
+          ∙ sym (ap (holds (λ (p : ℕ × Entry). holds (not-declared (p .1)) (textCell s (colOf ix i 9)))) (find-is s ix (textAt s (colOf ix i 8))))
+          ∙ sym (ap (λ (b : Bool). holds (λ (p : ℕ × Entry). holds (not-declared (p .1)) (textCell s (colOf ix i 9))) (named-entry (manifestOf s ix) (pick b absent (one (textAt s (colOf ix i 8)))))) filed)
+          ∙ sync-none
+
 -- ---- the entry that is cited
 
 -- by its number from 1 on
-cited-shape : (r : ℕ → Link) (e : ℕ) → pick (eqb (fromOne e) 0) Unrelated (pick (ltb 32 (fromOne e)) Unrelated (r (fromOne e - 1))) ≡ pick (ltb e 32) (r e) Unrelated
-unfolding fromOne pick
-cited-shape r e = go (decLt e 32)
-  where
-    by : ℕ → Link
-    by c = pick (eqb c 0) Unrelated (pick (ltb 32 c) Unrelated (r (c - 1)))
+module _ {A : Type 0} (none : A) (r : ℕ → A) where
+  pub cited-shape : (e : ℕ) → pick (eqb (fromOne e) 0) none (pick (ltb 32 (fromOne e)) none (r (fromOne e - 1))) ≡ pick (ltb e 32) (r e) none
+  unfolding fromOne pick
+  cited-shape e = go (decLt e 32)
+    where
+      by : ℕ → A
+      by c = pick (eqb c 0) none (pick (ltb 32 c) none (r (c - 1)))
 
-    go : Dec (e < 32) → by (pick (ltb e 32) (e + 1) 0) ≡ pick (ltb e 32) (r e) Unrelated
-    go (yes h) =
-        let z : e + 1 - 1 ≡ e = omega arith in
-        ap by (pick-true (e + 1) 0 (lt-ltb e 32 h))
-        ∙ (pick-false Unrelated _ (ne-eqb (e + 1) 0 (λ (q : e + 1 ≡ 0). omega arith))
-        ∙ (pick-false Unrelated _ (le-ltb 32 (e + 1) (omega arith))
-        ∙ (ap r z ∙ sym (pick-true (r e) Unrelated (lt-ltb e 32 h)))))
-    go (no h) = let l : 32 ≤ e = omega arith in ap by (pick-false (e + 1) 0 (le-ltb e 32 l)) ∙ sym (pick-false (r e) Unrelated (le-ltb e 32 l))
+      go : Dec (e < 32) → by (pick (ltb e 32) (e + 1) 0) ≡ pick (ltb e 32) (r e) none
+      go (yes h) =
+          let z : e + 1 - 1 ≡ e = omega arith in
+          ap by (pick-true (e + 1) 0 (lt-ltb e 32 h))
+          ∙ (pick-false none _ (ne-eqb (e + 1) 0 (λ (q : e + 1 ≡ 0). omega arith))
+          ∙ (pick-false none _ (le-ltb 32 (e + 1) (omega arith))
+          ∙ (ap r z ∙ sym (pick-true (r e) none (lt-ltb e 32 h)))))
+      go (no h) = let l : 32 ≤ e = omega arith in ap by (pick-false (e + 1) 0 (le-ltb e 32 l)) ∙ sym (pick-false (r e) none (le-ltb e 32 l))
 
--- without a `file` none is
-cited-file : (r : ℕ → Link) (b : Bool) (e : ℕ) → pick (ltb (pick b 32 e) 32) (r (pick b 32 e)) Unrelated ≡ pick b Unrelated (pick (ltb e 32) (r e) Unrelated)
-unfolding pick
-cited-file r true e = refl
-cited-file r false e = refl
+  -- without a `file` none is
+  pub cited-file : (b : Bool) (e : ℕ) → pick (ltb (pick b 32 e) 32) (r (pick b 32 e)) none ≡ pick b none (pick (ltb e 32) (r e) none)
+  unfolding pick
+  cited-file true e = refl
+  cited-file false e = refl
 
 -- there is no column of an entry from 32 on
 no-column : (ix : List ℕ) {i : ℕ} → 32 ≤ i → (j : ℕ) → eqb (colOf ix i j) 0 ≡ true
@@ -176,32 +228,43 @@ link-cites s ix i = go (decLt i 32)
     go (yes few) =
         ap (λ (l : Link). pick (eqb (colOf ix i 4) 0) Unrelated (pick (eqb (colOf ix i 7) 0) Unrelated l))
         (ap (λ (c : ℕ). pick (eqb c 0) Unrelated (pick (ltb 32 c) Unrelated (r (c - 1)))) (lookups-cited s ix i few)
-        ∙ (cited-shape r (citedBy s ix i) ∙ cited-file r (eqb (colOf ix i 8) 0) file))
+        ∙ (cited-shape Unrelated r (citedBy s ix i) ∙ cited-file Unrelated r (eqb (colOf ix i 8) 0) file))
     go (no many) = let h : 32 ≤ i = omega arith in pick-true Unrelated _ (no-column ix h 4) ∙ sym (pick-true Unrelated _ (no-column ix h 4))
 
 -- ---- the clocks
 
 module _ (s : Text) (ix : List ℕ) (few : length (names-in (manifestOf s ix)) ≤ 32) where
   -- the machine that a `machine` at a position names, or else the base machine of the file of entry i
-  machine-told : (i machine : ℕ) → numberAt s (lookups s ix) (pick (eqb machine 0) (baseAt s ix i) machine) ≡ numberOf (names-in (manifestOf s ix)) (cited-or (textCell s machine) (base (entryAt s ix i)))
-  machine-told i machine =
-      lookups-number s ix (pick (eqb machine 0) (baseAt s ix i) machine) few
-      ∙ ap (numberOf (names-in (manifestOf s ix))) (whose-or s (baseAt s ix i) machine ∙ ap (cited-or (textCell s machine)) (sym (base-is s ix i)))
-
-  pub cited-told : (i clock machine : ℕ) → citedAt s ix (lookups s ix) i clock machine ≡ cited (names-in (manifestOf s ix)) (clockAt i (entryAt s ix i) (textCell s clock) (textCell s machine))
-  unfolding citedAt cited clockAt at pick
-  cited-told i clock machine = go (eqb clock 0)
+  -- (a machine that a file that is not split declares is its base machine)
+  whose-named : (i machine : ℕ) → holds (not-declared (entryAt s ix i)) (textCell s machine) ≡ false → whoseAt s (citedName s ix i machine) ≡ whoseAt s (pick (eqb machine 0) (baseAt s ix i) machine)
+  unfolding citedName pick
+  whose-named i machine h = go (eqb (colOf ix i 3) 0) (eqb machine 0) refl refl
     where
-      go : (b : Bool) → pick b (Private i) (Domain (domainAt s clock) (numberAt s (lookups s ix) (pick (eqb machine 0) (baseAt s ix i) machine)))
+      go : (b c : Bool) → eqb (colOf ix i 3) 0 ≡ b → eqb machine 0 ≡ c → whoseAt s (pick b (baseAt s ix i) (pick c (baseAt s ix i) machine)) ≡ whoseAt s (pick c (baseAt s ix i) machine)
+      go true true eb ec = refl
+      go true false eb ec = base-cited s ix i eb machine ec h
+      go false c eb ec = refl
+
+  machine-told : (i machine : ℕ) → holds (not-declared (entryAt s ix i)) (textCell s machine) ≡ false → numberAt s (lookups s ix) (citedName s ix i machine) ≡ numberOf (names-in (manifestOf s ix)) (cited-or (textCell s machine) (base (entryAt s ix i)))
+  machine-told i machine h =
+      lookups-number s ix (citedName s ix i machine) few
+      ∙ ap (numberOf (names-in (manifestOf s ix))) (whose-named i machine h ∙ (whose-or s (baseAt s ix i) machine ∙ ap (cited-or (textCell s machine)) (sym (base-is s ix i))))
+
+  pub cited-told : (i clock machine : ℕ) → holds (not-declared (entryAt s ix i)) (textCell s machine) ≡ false
+      → citedAt s ix (lookups s ix) i clock machine ≡ cited (names-in (manifestOf s ix)) (clockAt i (entryAt s ix i) (textCell s clock) (textCell s machine))
+  unfolding citedAt cited clockAt at pick
+  cited-told i clock machine h = go (eqb clock 0)
+    where
+      go : (b : Bool) → pick b (Private i) (Domain (domainAt s clock) (numberAt s (lookups s ix) (citedName s ix i machine)))
           ≡ cited (names-in (manifestOf s ix)) (clockAt i (entryAt s ix i) (pick b absent (one (textAt s clock))) (textCell s machine))
       go true = refl
-      go false = λ j. Domain (domain-is s clock j) (machine-told i machine j)
+      go false = λ j. Domain (domain-is s clock j) (machine-told i machine h j)
 
   module _ (accepted : refusal-5-or-later (one (manifestOf s ix)) ≡ 0) {i : ℕ} (below : i < entriesIn ix) where
     abbrev its-file : ℕ
     its-file = entryOf (manifestOf s ix) (textAt s (colOf ix i 8))
 
-    related-told : eqb (colOf ix i 4) 0 ≡ false
+    related-told : eqb (colOf ix i 4) 0 ≡ false → eqb (colOf ix i 7) 0 ≡ false → eqb (colOf ix i 8) 0 ≡ false → ltb its-file 32 ≡ true
         → relatedTo s ix (lookups s ix) i its-file
         ≡ Related (record {
           from = cited (names-in (manifestOf s ix)) (source i (entryAt s ix i) (clocksBy s (colOf ix i)));
@@ -209,9 +272,9 @@ module _ (s : Text) (ix : List ℕ) (few : length (names-in (manifestOf s ix)) �
           offset = offsetOf (offset (clocksBy s (colOf ix i)));
         })
     unfolding relatedTo clocksBy syncBy
-    related-told e = λ j. Related (record {
-      from = cited-told i (colOf ix i 5) (colOf ix i 6) j;
-      to = cited-told its-file (colOf ix i 10) (colOf ix i 9) j;
+    related-told e e7 e8 found = λ j. Related (record {
+      from = cited-told i (colOf ix i 5) (colOf ix i 6) (own-declared s ix below accepted e) j;
+      to = cited-told its-file (colOf ix i 10) (colOf ix i 9) (its-declared s ix below accepted e e7 e8 found) j;
       offset = offset-told s ix below accepted (lookups s ix) e j;
     })
 
@@ -220,9 +283,9 @@ module _ (s : Text) (ix : List ℕ) (few : length (names-in (manifestOf s ix)) �
     link-is =
         link-cites s ix i
         ∙ linked-at (colOf ix i 4) (clocksBy s (colOf ix i)) (over-clocks m i e) (λ h.
-        linked-at (colOf ix i 7) (syncBy s (colOf ix i)) (over-sync m i e c) (λ _.
-        linked-by (colOf ix i 8) (textAt s (colOf ix i 8)) (λ t. find t 0 (entries m)) (over-entry m i e c u)
-        (linked-if (ltb its-file 32) (its-file, entryAt s ix its-file) (over-entry m i e c u) (related-told h)
+        linked-at (colOf ix i 7) (syncBy s (colOf ix i)) (over-sync m i e c) (λ h7.
+        linked-by (colOf ix i 8) (textAt s (colOf ix i 8)) (λ t. find t 0 (entries m)) (over-entry m i e c u) (λ h8.
+        linked-if (ltb its-file 32) (its-file, entryAt s ix its-file) (over-entry m i e c u) (related-told h h7 h8)
         ∙ ap (λ (x : Cell (ℕ × Entry)). linked (onto x (over-entry m i e c u))) (sym (find-is s ix (textAt s (colOf ix i 8)))))))
       where
         m : Manifest

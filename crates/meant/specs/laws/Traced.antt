@@ -2,7 +2,7 @@
 use mathlib.Core.Path.{_≡_, refl, sym, ap, _∙_}
 use mathlib.Core.Bool.{Bool, true, false}
 use mathlib.Core.List.{List}
-use Prim.Native.Nat.{ℕ, _≤_}
+use Prim.Native.Nat.{ℕ, _-_, _≤_}
 use lib.Dec.{eqb, ltb}
 use lib.ListN.{length, getD}
 use Rattle.text.specs.Reading.{Text, pick}
@@ -16,12 +16,12 @@ use Rattle.manifest.specs.Statements.{Meets, stands, SoundRow}
 use Rattle.manifest.specs.laws.Accepted.{members-sound}
 use Rattle.outline.specs.Outline.{domainAt}
 use Rattle.index.specs.Index.{textAt, at, textCell, traceAt, entryAt, manifestOf, whoseAt}
-use Rattle.finds.specs.Finds.{entryOf, baseAt, lookups}
+use Rattle.finds.specs.Finds.{entryOf, traceCited, baseAt, lookups}
 use Rattle.finds.specs.Theorems.{find-is, base-is}
 use Rattle.named.specs.Named.{numberAt}
-use Rattle.finds.specs.laws.Lookups.{lookups-number}
-use Rattle.meant.specs.Meant.{traceMachineAt, timelineOf}
-use Rattle.meant.specs.laws.Links.{domain-is, whose-or}
+use Rattle.finds.specs.laws.Lookups.{lookups-number, lookups-trace}
+use Rattle.meant.specs.Meant.{traceCites, traceMachineAt, timelineOf}
+use Rattle.meant.specs.laws.Links.{cited-shape, cited-file, domain-is, whose-or}
 
 -- a text that is required stands there
 required-text : (p : ℕ) (t : Text) → Meets (λ (u : Text). Unit {0}) true (at p (one t)) → t ≡ textOr (at p (one t))
@@ -30,6 +30,19 @@ required-text p t = go (eqb p 0)
   where
     go : (b : Bool) → Meets (λ (u : Text). Unit {0}) true (pick b absent (one t)) → t ≡ textOr (pick b absent (one t))
     go false (stands u) = refl
+
+-- where the name of its machine stands, in terms of the text
+trace-cites : (s : Text) (ix : List ℕ)
+    → traceMachineAt s ix (lookups s ix)
+    ≡ pick (eqb (getD ix 4 0) 0)
+    (pick (eqb (getD ix 3 0) 0) 0
+    (pick (ltb (entryOf (manifestOf s ix) (textAt s (getD ix 3 0))) 32) (baseAt s ix (entryOf (manifestOf s ix) (textAt s (getD ix 3 0)))) 0))
+    (getD ix 4 0)
+unfolding traceMachineAt traceCites traceCited
+trace-cites s ix =
+    ap (λ (p : ℕ). pick (eqb (getD ix 4 0) 0) p (getD ix 4 0))
+    (ap (λ (c : ℕ). pick (eqb c 0) 0 (pick (ltb 32 c) 0 (baseAt s ix (c - 1)))) (lookups-trace s ix)
+    ∙ (cited-shape 0 (baseAt s ix) (traceCited s ix) ∙ cited-file 0 (baseAt s ix) (eqb (getD ix 3 0) 0) (entryOf (manifestOf s ix) (textAt s (getD ix 3 0)))))
 
 module _ (s : Text) (ix : List ℕ) (few : length (names-in (manifestOf s ix)) ≤ 32) where
   -- the base machine of the file whose path stands at p
@@ -49,10 +62,9 @@ module _ (s : Text) (ix : List ℕ) (few : length (names-in (manifestOf s ix)) �
 
   trace-machine-told : numberAt s (lookups s ix) (traceMachineAt s ix (lookups s ix))
       ≡ numberOf (names-in (manifestOf s ix)) (cited-or (textCell s (getD ix 4 0)) (base-of (named-entry (manifestOf s ix) (textCell s (getD ix 3 0)))))
-  unfolding traceMachineAt
   trace-machine-told =
       lookups-number s ix (traceMachineAt s ix (lookups s ix)) few
-      ∙ ap (numberOf (names-in (manifestOf s ix))) (whose-or s _ (getD ix 4 0) ∙ ap (cited-or (textCell s (getD ix 4 0))) (file-base (getD ix 3 0)))
+      ∙ ap (numberOf (names-in (manifestOf s ix))) (ap (whoseAt s) (trace-cites s ix) ∙ whose-or s _ (getD ix 4 0) ∙ ap (cited-or (textCell s (getD ix 4 0))) (file-base (getD ix 3 0)))
 
   pub timeline-is : refusal-5-or-later (one (manifestOf s ix)) ≡ 0 → timelineOf s ix (lookups s ix) ≡ timeline (manifestOf s ix) (traceTime (manifestOf s ix))
   unfolding timelineOf manifestOf timeline traceAt at pick

@@ -44,6 +44,9 @@ returns-3 c = (added-new _ _ (c .before .before .before .before .before .before 
 returns-4 : tie.Need-returns-4
 returns-4 c = (added-full _ _ (c .before .before .before .pre .0) (c .before .before .before .pre .1) (c .before .if1 .left) (c .if2 .left), c .before .before .before .pre .2)
 
+add-t19 : tie.Need-add-t19
+add-t19 c = search needs
+
 pub add-spec : {M : Type 1} → statement M
 add-spec =
     tie.close
@@ -58,5 +61,6 @@ add-spec =
     mul-prints
     element-write-prints
     add-t13
+    add-t19
     returns-3
     returns-4)

@@ -1,93 +1,29 @@
--- `named::number_at` meets its contract: position 0 is the host; else the invariant is that the name, looked for from place k on, gives the number. A name with another print is
--- another text. The slice of the table tells that it has 96 numbers. Assumes nothing.
-use mathlib.Core.Logic.{⊎-elim}
-use mathlib.Core.Path.{_≡_, sym, _∙_}
-use Prim.Native.Nat.{_-_, _≤_}
-use native.Mathlib.Omega.{arith}
-use lib.ListN.{length}
-use Rattle.named.specs.laws.Firsts.{numberFrom, number-host, number-start, number-here, number-on, number-past, named-other, named-same}
-use Rattle.named.specs.Named.{numberAt}
+-- `named::number_at` meets its contract: position 0 is the host; a position that stands in the table tells the number by its place, any other by print and text. Assumes nothing.
+use Rattle.named.specs.laws.Firsts.{number-host, number-placed, number-written}
 use borrow.Author.Needs.{needs}
 use Rattle.named.proofs.number_at.Statement.{statement}
 use Rattle.named.proofs.number_at.Tie as tie
 
-abbrev Inv-loop : tie.InvT-loop
-Inv-loop s table p print wanted held k₀ k = (k ≤ 32) × (length table ≡ 96) × (numberAt s table p ≡ record { 0 = numberFrom s table p k })
-
-abbrev μ-loop : tie.MeasureT-loop
-μ-loop s table p print wanted held k₀ k = 32 - k
-
-returns : tie.Need-returns Inv-loop μ-loop
+returns : tie.Need-returns
 returns c = number-host _ _ _ (c .if1 .taken)
 
-print-at-requires : tie.Need-print-at-requires Inv-loop μ-loop
-print-at-requires c κs = search needs
+stands-at-requires : tie.Need-stands-at-requires
+stands-at-requires c κs = search needs
 
-wide-requires : tie.Need-wide-requires Inv-loop μ-loop
-wide-requires c κs = search needs
+add-t6 : tie.Need-add-t6
+add-t6 c = search needs
 
-loop-holds : tie.Need-loop-holds Inv-loop μ-loop
-loop-holds c = (omega arith, c .held .given .0, number-start _ _ _ (c .before .before .before .if1 .left))
+cast-t7 : tie.Need-cast-t7
+cast-t7 c = search needs
 
-add-if2 : tie.Need-add-if2 Inv-loop μ-loop
-add-if2 c = search needs
+returns-2 : tie.Need-returns-2
+returns-2 c = number-placed _ (c .before .before .before .before .args .table .now) _ (c .before .before .if1 .left) (c .before .stands-at .ensures) (c .if2 .taken)
 
-mul-if2 : tie.Need-mul-if2 Inv-loop μ-loop
-mul-if2 c = search needs
+number-by-requires : tie.Need-number-by-requires
+number-by-requires c κs = search needs
 
-shared-slice-read-if2 : tie.Need-shared-slice-read-if2 Inv-loop μ-loop
-shared-slice-read-if2 c = omega (arith, c .before .before .loop .inv .1)
-
-mul-is-called : tie.Need-mul-is-called Inv-loop μ-loop
-mul-is-called c = search needs
-
-shared-slice-read-is-called : tie.Need-shared-slice-read-is-called Inv-loop μ-loop
-shared-slice-read-is-called c = omega (arith, c .before .before .before .before .loop .inv .1)
-
-is-called-requires : tie.Need-is-called-requires Inv-loop μ-loop
-is-called-requires c κs = c .before .before .before .before .before .before .before .print-at .ensures
-
-add-t19 : tie.Need-add-t19 Inv-loop μ-loop
-add-t19 c = search needs
-
-cast-t20 : tie.Need-cast-t20 Inv-loop μ-loop
-cast-t20 c = search needs
-
-returns-2 : tie.Need-returns-2 Inv-loop μ-loop
-returns-2 c = number-here _ (c .before .before .before .before .before .before .before .before .before .before .before .before .args .table .now) _ _ (c .before .before .before .before .before .before .loop .inv .2) (c .before .before .before .before .before .loop-test .taken) (named-same _ (c .before .before .before .before .before .before .before .before .before .before .before .before .args .table .now) _ _ (c .before .before .before .before .before .before .before .before .before .print-at .ensures) (c .before .before .before .if2 .taken ∙ c .before .before .before .before .before .before .before .before .wide .ensures) (c .before .is-called .ensures) ∙ c .if3 .taken)
-
-add-k : tie.Need-add-k Inv-loop μ-loop
-add-k c = search needs
-
-loop-less : tie.Need-loop-less Inv-loop μ-loop
-loop-less c = search needs
-
-loop-again : tie.Need-loop-again Inv-loop μ-loop
-loop-again c = (omega arith, c .before .before .before .loop .inv .1, number-on _ (c .before .before .before .before .before .before .before .before .before .args .table .now) _ _ (c .before .before .before .loop .inv .2) (c .before .before .loop-test .taken) (⊎-elim (λ w. named-same _ (c .before .before .before .before .before .before .before .before .before .args .table .now) _ _ (c .before .before .before .before .before .before .print-at .ensures) (w .0 .taken ∙ c .before .before .before .before .before .wide .ensures) (w .2 .ensures) ∙ w .3 .left) (λ w. named-other _ (c .before .before .before .before .before .before .before .before .before .args .table .now) _ _ (c .before .before .before .before .before .before .print-at .ensures) (λ e. w .left (e ∙ sym (c .before .before .before .before .before .wide .ensures)))) (c .if2 .came)))
-
-returns-3 : tie.Need-returns-3 Inv-loop μ-loop
-returns-3 c = number-past _ (c .before .before .before .before .before .before .before .args .table .now) _ _ (c .before .loop .inv .2) (c .loop-test .left)
+returns-3 : tie.Need-returns-3
+returns-3 c = number-written _ (c .before .before .before .before .before .args .table .now) _ (c .before .before .before .if1 .left) (c .before .before .stands-at .ensures) (c .before .if2 .left) (c .number-by .ensures)
 
 pub number-at-spec : {M : Type 1} → statement M
-number-at-spec =
-    tie.close
-    (tie.spec
-    Inv-loop
-    μ-loop
-    returns
-    print-at-requires
-    wide-requires
-    loop-holds
-    add-if2
-    mul-if2
-    shared-slice-read-if2
-    mul-is-called
-    shared-slice-read-is-called
-    is-called-requires
-    add-t19
-    cast-t20
-    returns-2
-    add-k
-    loop-less
-    loop-again
-    returns-3)
+number-at-spec = tie.close (tie.spec returns stands-at-requires add-t6 cast-t7 returns-2 number-by-requires returns-3)

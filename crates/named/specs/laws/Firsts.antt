@@ -7,7 +7,7 @@ use native.Mathlib.Omega.{arith}
 use lib.Dec.{eqb}
 use lib.ListN.{length, getD, take, drop, drop-of-length-le}
 use lib.Seq.{drop-cons, length-take-le, getD-take}
-use borrow.Author.Tests.{eq-eqb, ne-eqb}
+use borrow.Author.Tests.{eq-eqb, ne-eqb, lt-ltb, le-ltb}
 use Rattle.text.specs.Reading.{Text}
 use Rattle.text.specs.laws.Readers.{pick-true, pick-false}
 use Rattle.json.specs.Tree.{same}
@@ -17,7 +17,7 @@ use Rattle.manifest.specs.Rows.{any, firstOr}
 use Rattle.index.specs.Index.{textAt, listed}
 use Rattle.index.specs.laws.Entries.{from, from-past, from-here}
 use Rattle.named.specs.Prints.{printAt}
-use Rattle.named.specs.Named.{countIn, isCalled, isNamed, numberAt}
+use Rattle.named.specs.Named.{standsAt, isCalled, isNamed, numberBy, numberAt}
 use Rattle.named.specs.laws.Texts.{known}
 
 module _ (d : ℕ) (p : ℕ → Bool) (names : List ℕ) (k i : ℕ) where
@@ -34,37 +34,37 @@ module _ (d : ℕ) (p : ℕ → Bool) (names : List ℕ) (k i : ℕ) where
   unfolding firstOr
   first-past h = ap (λ (l : List ℕ). firstOr d p l i) (drop-of-length-le names h)
 
--- ---- how many names there are
+-- ---- where a position stands
 
--- the first 0 is looked for from place k on
-unfoldable pub countFrom : List ℕ → ℕ → ℕ
-countFrom table k = firstOr 32 (λ q. eqb q 0) (drop k (take 32 table)) k
+-- p is looked for from place k on
+unfoldable pub standsFrom : List ℕ → ℕ → ℕ → ℕ
+standsFrom table p k = firstOr 32 (λ q. eqb q p) (drop k (take 32 table)) k
 
-module _ (table : List ℕ) (long : 32 ≤ length table) where
+module _ (table : List ℕ) (long : 32 ≤ length table) (p : ℕ) where
   its-length : length (take 32 table) ≡ 32
   its-length = length-take-le 32 table long
 
-  pub count-start : countIn table ≡ countFrom table 0
-  unfolding countIn countFrom
-  count-start = refl
+  pub stands-start : standsAt table p ≡ standsFrom table p 0
+  unfolding standsAt standsFrom
+  stands-start = refl
 
-  module _ (k : ℕ) (so : countIn table ≡ countFrom table k) where
+  module _ (k : ℕ) (so : standsAt table p ≡ standsFrom table p k) where
     at-place : k < 32 → getD (take 32 table) k 0 ≡ getD table k 0
     at-place h = getD-take 32 table k 0 h
 
-    pub count-here : k < 32 → getD table k 0 ≡ 0 → k ≡ countIn table
-    unfolding countFrom
-    count-here h e = sym (so ∙ first-here 32 (λ q. eqb q 0) (take 32 table) k k (omega (arith, its-length)) (eq-eqb _ 0 (at-place h ∙ e)))
+    pub stands-here : k < 32 → getD table k 0 ≡ p → k ≡ standsAt table p
+    unfolding standsFrom
+    stands-here h e = sym (so ∙ first-here 32 (λ q. eqb q p) (take 32 table) k k (omega (arith, its-length)) (eq-eqb _ p (at-place h ∙ e)))
 
-    pub count-on : k < 32 → (getD table k 0 ≡ 0 → ⊥) → countIn table ≡ countFrom table (k + 1)
-    unfolding countFrom
-    count-on h e =
+    pub stands-on : k < 32 → (getD table k 0 ≡ p → ⊥) → standsAt table p ≡ standsFrom table p (k + 1)
+    unfolding standsFrom
+    stands-on h e =
         let n : suc k ≡ k + 1 = omega arith in
-        so ∙ (first-on 32 (λ q. eqb q 0) (take 32 table) k k (omega (arith, its-length)) (ne-eqb _ 0 (λ q. e (sym (at-place h) ∙ q))) ∙ ap (countFrom table) n)
+        so ∙ (first-on 32 (λ q. eqb q p) (take 32 table) k k (omega (arith, its-length)) (ne-eqb _ p (λ q. e (sym (at-place h) ∙ q))) ∙ ap (standsFrom table p) n)
 
-    pub count-past : 32 ≤ k → 32 ≡ countIn table
-    unfolding countFrom
-    count-past h = sym (so ∙ first-past 32 (λ q. eqb q 0) (take 32 table) k k (omega (arith, its-length)))
+    pub stands-past : 32 ≤ k → 32 ≡ standsAt table p
+    unfolding standsFrom
+    stands-past h = sym (so ∙ first-past 32 (λ q. eqb q p) (take 32 table) k k (omega (arith, its-length)))
 
 -- ---- the number of a machine
 
@@ -100,29 +100,44 @@ module _ (s : Text) (table : List ℕ) (p : ℕ) where
   abbrev pub machine : ℕ → Machine
   machine n = record { 0 = n }
 
+  -- position 0; a position that stands at place k; one that does not stand there
   pub number-host : p ≡ 0 → machine 0 ≡ numberAt s table p
   unfolding numberAt
   number-host z = sym (ap machine (pick-true _ _ (eq-eqb p 0 z)))
 
-  pub number-start : (p ≡ 0 → ⊥) → numberAt s table p ≡ machine (numberFrom 0)
-  unfolding numberAt numberFrom from
-  number-start z = ap machine (pick-false _ _ (ne-eqb p 0 z))
+  module _ (some : p ≡ 0 → ⊥) {k : ℕ} (ek : k ≡ standsAt table p) where
+    pub number-placed : k < 32 → machine (k + 1) ≡ numberAt s table p
+    unfolding numberAt
+    number-placed h =
+        let g : standsAt table p < 32 = omega arith in
+        ap (λ (n : ℕ). machine (n + 1)) ek ∙ sym (ap machine (pick-false _ _ (ne-eqb p 0 some) ∙ pick-true _ _ (lt-ltb _ _ g)))
 
-  module _ (k : ℕ) (so : numberAt s table p ≡ machine (numberFrom k)) where
-    pub number-here : k < 32 → isNamed s table p k ≡ true → machine (k + 1) ≡ numberAt s table p
+    pub number-written : 32 ≤ k → {n : ℕ} → n ≡ numberBy s table p → machine n ≡ numberAt s table p
+    unfolding numberAt
+    number-written h en =
+        let g : 32 ≤ standsAt table p = omega arith in
+        ap machine en ∙ sym (ap machine (pick-false _ _ (ne-eqb p 0 some) ∙ pick-false _ _ (le-ltb _ _ g)))
+
+  -- ---- by print and text
+  pub number-start : numberBy s table p ≡ numberFrom 0
+  unfolding numberBy numberFrom from
+  number-start = refl
+
+  module _ (k : ℕ) (so : numberBy s table p ≡ numberFrom k) where
+    pub number-here : k < 32 → isNamed s table p k ≡ true → k + 1 ≡ numberBy s table p
     unfolding numberFrom firstOr
-    number-here h e = sym (so ∙ ap machine (ap (λ (l : List ℕ). firstOr 0 (isNamed s table p) l (k + 1)) (from-here (λ j. j) 32 k h) ∙ pick-true _ _ e))
+    number-here h e = sym (so ∙ (ap (λ (l : List ℕ). firstOr 0 (isNamed s table p) l (k + 1)) (from-here (λ j. j) 32 k h) ∙ pick-true _ _ e))
 
-    pub number-on : k < 32 → isNamed s table p k ≡ false → numberAt s table p ≡ machine (numberFrom (k + 1))
+    pub number-on : k < 32 → isNamed s table p k ≡ false → numberBy s table p ≡ numberFrom (k + 1)
     unfolding numberFrom firstOr
     number-on h e =
         let n : suc k ≡ k + 1 = omega arith in
         let m : suc (k + 1) ≡ k + 1 + 1 = omega arith in
-        so ∙ ap machine (ap (λ (l : List ℕ). firstOr 0 (isNamed s table p) l (k + 1)) (from-here (λ j. j) 32 k h) ∙ (pick-false _ _ e ∙ (λ t. firstOr 0 (isNamed s table p) (from (λ j. j) 32 (n t)) (m t))))
+        so ∙ (ap (λ (l : List ℕ). firstOr 0 (isNamed s table p) l (k + 1)) (from-here (λ j. j) 32 k h) ∙ (pick-false _ _ e ∙ (λ t. firstOr 0 (isNamed s table p) (from (λ j. j) 32 (n t)) (m t))))
 
-    pub number-past : 32 ≤ k → machine 0 ≡ numberAt s table p
+    pub number-past : 32 ≤ k → 0 ≡ numberBy s table p
     unfolding numberFrom firstOr
-    number-past h = sym (so ∙ ap machine (ap (λ (l : List ℕ). firstOr 0 (isNamed s table p) l (k + 1)) (from-past (λ j. j) 32 k h)))
+    number-past h = sym (so ∙ ap (λ (l : List ℕ). firstOr 0 (isNamed s table p) l (k + 1)) (from-past (λ j. j) 32 k h))
 
 module _ (s : Text) (names : List ℕ) (p : ℕ) where
   -- ---- whether a name is there

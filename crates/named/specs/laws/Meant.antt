@@ -1,13 +1,13 @@
 -- The names by their texts: they are those of the manifest that the index stands for. Assumes nothing.
-use mathlib.Core.Path.{_≡_, refl, sym, ap, _∙_}
+use mathlib.Core.Path.{_≡_, refl, sym, ap, subst, _∙_}
 use mathlib.Core.Bool.{Bool, true, false, not, _||_, _&&_}
 use mathlib.Core.List.{List, [], _∷_, _++_, map, append-nil}
 use Prim.Native.Nat.{ℕ, zero, suc, _+_, _-_, _≤_, _<_, min}
 use native.Mathlib.Omega.{arith}
-use lib.Dec.{eqb}
+use lib.Dec.{eqb, ltb}
 use lib.ListN.{length, getD, take, replicate, length-append, length-take, length-replicate, length-map, List·getD-append, List·getD-map}
 use lib.Seq.{take-all, take-at}
-use borrow.Author.Tests.{eq-eqb}
+use borrow.Author.Tests.{eq-eqb, eqb-false, ltb-true}
 use Rattle.text.specs.Reading.{Text, pick}
 use Rattle.text.specs.laws.Readers.{pick-false}
 use Rattle.json.specs.Tree.{same}
@@ -21,9 +21,10 @@ use Rattle.manifest.specs.laws.Lists.{any-append}
 use Rattle.index.specs.Index.{textAt, colOf, itemOf, entriesIn, itemsIn, at, listed, itemBy, entryBy, entryAt, manifestOf, whoseAt}
 use Rattle.index.specs.laws.Entries.{from, entryCell, entries-are, itemAt, items-are}
 use Rattle.named.specs.Prints.{printAt}
-use Rattle.named.specs.Named.{place, declaredAt, declaredIn, withoutAt, distinctAt, namesIn, nameTable, namePrint, printTable, countIn, isCalled, isNamed, numberAt}
+use Rattle.named.specs.Named.{place, declaredAt, declaredIn, withoutAt, distinctAt, namesIn, nameTable, namePrint, printTable, standsAt, countIn, isCalled, isNamed, numberBy, numberAt}
 use Rattle.named.specs.laws.Texts.{map-append, distinct-texts}
 use Rattle.named.specs.laws.Prints.{same-print}
+use Rattle.named.specs.laws.Once.{placed-first, names-once}
 
 -- ---- the texts of the names that are declared
 
@@ -219,7 +220,7 @@ module _ (s : Text) (ix : List ℕ) where
 
   -- behind the positions may stand anything
   pub table-count : (rest : List ℕ) → countIn (nameTable s ix ++ rest) ≡ min 32 (length (names-in (manifestOf s ix)))
-  unfolding nameTable countIn
+  unfolding nameTable countIn standsAt
   table-count rest =
       let l : List ℕ = take 32 (namesIn s ix) in
       let d : 32 ≡ 0 + length l + (32 - length l) = omega (arith, few) in
@@ -256,17 +257,37 @@ module _ (s : Text) (ix : List ℕ) where
       (λ t. eqb (print-at-place rest k h t) (printAt s p) && isCalled s p (List·getD-append (nameTable s ix) (printTable s ix ++ rest) 0 k (omega (arith, table-long)) t))
       ∙ print-needless s p (getD (nameTable s ix) k 0)
 
+  -- a position of the table is the first there whose text is its own
+  placed-texts : (rest : List ℕ) (p : ℕ) → (p ≡ 0 → ⊥) → standsAt (nameTable s ix ++ (printTable s ix ++ rest)) p < 32
+      → standsAt (nameTable s ix ++ (printTable s ix ++ rest)) p + 1 ≡ firstOr 0 (isCalled s p) (nameTable s ix) 1
+  unfolding standsAt
+  placed-texts rest p z l =
+      let cut : take 32 (nameTable s ix ++ (printTable s ix ++ rest)) ≡ nameTable s ix = take-at (nameTable s ix) (printTable s ix ++ rest) 32 table-long in
+      ap (λ (t : List ℕ). firstOr 32 (λ q. eqb q p) t 0 + 1) cut
+      ∙ placed-first s p z (nameTable s ix) (names-once s ix) (subst (λ (t : List ℕ). firstOr 32 (λ q. eqb q p) t 0 < 32) cut l)
+
   pub table-number : (rest : List ℕ) (p : ℕ) → length (names-in (manifestOf s ix)) ≤ 32
       → numberAt s (nameTable s ix ++ (printTable s ix ++ rest)) p ≡ numberOf (names-in (manifestOf s ix)) (whoseAt s p)
-  unfolding numberAt numberOf whoseAt pick
-  table-number rest p h = go (eqb p 0)
+  unfolding numberAt numberBy numberOf whoseAt pick
+  table-number rest p h = go (eqb p 0) refl
     where
-      found : firstOr 0 (isNamed s (nameTable s ix ++ (printTable s ix ++ rest)) p) (listed (λ k. k) 0 32) 1 ≡ firstOr 0 (same (textAt s p)) (names-in (manifestOf s ix)) 1
+      table : List ℕ
+      table = nameTable s ix ++ (printTable s ix ++ rest)
+
+      found : numberBy s table p ≡ firstOr 0 (same (textAt s p)) (names-in (manifestOf s ix)) 1
       found =
           ap (λ (n : ℕ). firstOr 0 (isNamed s (nameTable s ix ++ (printTable s ix ++ rest)) p) (listed (λ k. k) 0 n) 1) (sym table-long)
           ∙ (first-listed 0 (isNamed s (nameTable s ix ++ (printTable s ix ++ rest)) p) (isCalled s p) (nameTable s ix) 1 0 (λ j l. let z : 0 + j ≡ j = omega arith in ap (isNamed s (nameTable s ix ++ (printTable s ix ++ rest)) p) z ∙ named-called rest p j (omega (arith, table-long)))
           ∙ by-texts p h)
 
-      go : (b : Bool) → _≡_ {A = Machine} (record { 0 = pick b 0 (firstOr 0 (isNamed s (nameTable s ix ++ (printTable s ix ++ rest)) p) (listed (λ k. k) 0 32) 1) }) (numberOf (names-in (manifestOf s ix)) (pick b host (called (textAt s p))))
-      go true = refl
-      go false = λ t. record { 0 = found t }
+      -- what stands in the table as it stands at p is found there by its text too, since each text is in it once
+      placed : (p ≡ 0 → ⊥) → standsAt table p < 32 → standsAt table p + 1 ≡ firstOr 0 (same (textAt s p)) (names-in (manifestOf s ix)) 1
+      placed z l = placed-texts rest p z l ∙ by-texts p h
+
+      either : (p ≡ 0 → ⊥) → (c : Bool) → ltb (standsAt table p) 32 ≡ c → pick c (standsAt table p + 1) (numberBy s table p) ≡ firstOr 0 (same (textAt s p)) (names-in (manifestOf s ix)) 1
+      either z true e = placed z (ltb-true _ _ e)
+      either z false e = found
+
+      go : (b : Bool) → eqb p 0 ≡ b → _≡_ {A = Machine} (record { 0 = pick b 0 (pick (ltb (standsAt table p) 32) (standsAt table p + 1) (numberBy s table p)) }) (numberOf (names-in (manifestOf s ix)) (pick b host (called (textAt s p))))
+      go true e = refl
+      go false e = λ t. record { 0 = either (eqb-false p 0 e) (ltb (standsAt table p) 32) refl t }

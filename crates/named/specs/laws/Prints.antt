@@ -129,7 +129,7 @@ bytes-all t e = e ∙ ap (printFrom 0) (take-all (length t - 0) t (omega arith))
 -- ---- the walk over a string
 
 -- what is left of a string from i on
-pub rest : Text → ℕ → Out Text
+unfoldable pub rest : Text → ℕ → Out Text
 rest s i = characters (suc (length s)) s i
 
 -- a print with what was read; 0 where nothing was

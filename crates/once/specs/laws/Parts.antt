@@ -1,4 +1,4 @@
--- The rules' parts, as the functions ask for them: a rule in one entry, the ids from an item on or by the numbers of a table, a path before an entry. Assumes nothing.
+-- The rules' parts, as functions ask for them: a rule in one entry, the ids from an item on or by the numbers of a table. Assumes nothing.
 use mathlib.Core.Path.{_≡_}
 use mathlib.Core.Bool.{Bool, true, false}
 use mathlib.Core.List.{List, [], _∷_}
@@ -7,8 +7,8 @@ use lib.IntN.{ℤ, pos}
 use lib.ListN.{take, drop}
 use Rattle.text.specs.Reading.{Text}
 use Rattle.manifest.specs.View.{one}
-use Rattle.manifest.specs.Rows.{the, holds, any, flat, path, id, ids, entries}
-use Rattle.manifest.specs.Rules.{Rule, has-path, applies, twice-in, refusal-15-path-or-id-twice}
+use Rattle.manifest.specs.Rows.{the, flat, id}
+use Rattle.manifest.specs.Rules.{Rule}
 use Rattle.index.specs.Index.{itemsIn, entryAt, manifestOf}
 use Rattle.index.specs.laws.Entries.{from, itemAt}
 
@@ -29,16 +29,7 @@ idOf (suc n) = pos n ∷ []
 unfoldable pub idsIn : List ℕ → ℕ → ℕ → List ℤ
 idsIn table n k = flat idOf (drop k (take n table))
 
--- entry i has the path of an entry before it
-unfoldable pub pathBefore : Text → List ℕ → ℕ → Bool
-pathBefore s ix i = holds (λ t. any (holds (has-path t)) (take i (entries (manifestOf s ix)))) (path (entryAt s ix i))
-
 -- what a number tells of an id that is out of range or not, and else stands for those of a list
 pub record Numbered (out : Bool) (l : List ℤ) (r : ℕ) : Type 0 where
   pub ranged : r ≤ 4294967296 → (out ≡ false) × (idOf r ≡ l)
   pub past : 4294967296 < r → out ≡ true
-
--- an id stands twice in an entry, so rule 15 applies; or in none of the first n
-pub record Told (s : Text) (ix : List ℕ) (n : ℕ) (twice : Bool) : Type 0 where
-  pub found : twice ≡ true → applies refusal-15-path-or-id-twice (manifestOf s ix) ≡ true
-  pub none : twice ≡ false → (j : ℕ) → j < n → twice-in (ids (entryAt s ix j)) ≡ false

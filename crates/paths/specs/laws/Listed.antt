@@ -38,12 +38,16 @@ near-counts g c h = go (ℕ-discrete c (g .goal))
 abbrev pub Stands : List ℕ → ℕ → ℕ → Type 0
 Stands ls m c = (i : ℕ) × (i < m) × (getD ls i 0 ≡ c)
 
+-- each of the first m is smaller than those after it
+abbrev pub Rising : List ℕ → ℕ → Type 0
+Rising ls m = (i j : ℕ) → i < j → j < m → getD ls i 0 < getD ls j 0
+
 -- the first m are clocks below c in rising order, and all that count are among them
 pub record Listed (g : Net) (ls : List ℕ) (m c : ℕ) : Type 0 where
   pub few : m ≤ c
   pub upto : c ≤ g .size
   pub below : (i : ℕ) → i < m → getD ls i 0 < c
-  pub rising : (i j : ℕ) → i < j → j < m → getD ls i 0 < getD ls j 0
+  pub rising : Rising ls m
   pub all : (e : ℕ) → e < c → Counts g e → Stands ls m e
 
 -- of all clocks
@@ -94,3 +98,54 @@ listed-before {ls = ls} s {i} {d} h k l = go (decLt i d) (decLt d i)
       where
         same : getD ls d 0 < getD ls d 0 → ⊥
         same q = omega arith
+
+-- the first r of out are those of the first m of ls that are not t, in rising order too
+pub record Others (ls : List ℕ) (m t : ℕ) (out : List ℕ) (r : ℕ) : Type 0 where
+  pub few : r ≤ m
+  pub from : (i : ℕ) → i < r → Stands ls m (getD out i 0)
+  pub not : (i : ℕ) → i < r → getD out i 0 ≡ t → ⊥
+  pub rising : Rising out r
+  pub all : (i : ℕ) → i < m → (getD ls i 0 ≡ t → ⊥) → Stands out r (getD ls i 0)
+
+pub others-none : (ls : List ℕ) (t : ℕ) (out : List ℕ) → Others ls 0 t out 0
+others-none ls t out = record { few = zero-le; from = λ i h. absurd (omega arith); not = λ i h. absurd (omega arith); rising = λ i j h k. absurd (omega arith); all = λ i h. absurd (omega arith) }
+
+module _ {ls : List ℕ} {m t : ℕ} {out : List ℕ} {r : ℕ} (s : Others ls m t out r) where
+  from-more : (i : ℕ) → i < r → Stands ls (m + 1) (getD out i 0)
+  from-more i h = let w = s .from i h in (w .0, omega (arith, w .1), w .2)
+
+  -- the next is t
+  pub others-skip : getD ls m 0 ≡ t → Others ls (m + 1) t out r
+  others-skip e = record {
+    few = omega (arith, s .few);
+    from = from-more;
+    not = s .not;
+    rising = s .rising;
+    all = below-more _ m (s .all) (λ n. absurd (n e));
+  }
+
+  -- it is put at the end
+  module _ {k : ℕ} (up : Rising ls k) (l : m < k) (room : r < length out) where
+    abbrev out′ : List ℕ
+    out′ = set out r (getD ls m 0)
+
+    old : (i : ℕ) → i < r → getD out′ i 0 ≡ getD out i 0
+    old i h = getD-set-other out r i (getD ls m 0) 0 (λ q. omega arith)
+
+    new : getD out′ r 0 ≡ getD ls m 0
+    new = getD-set-same out r (getD ls m 0) 0 room
+
+    smaller : (i : ℕ) → i < r → getD out i 0 < getD ls m 0
+    smaller i h = let w = s .from i h in omega (arith, w .2, up (w .0) m (w .1) l)
+
+    stays : (c : ℕ) → Stands out r c → Stands out′ (r + 1) c
+    stays c w = (w .0, omega (arith, w .1), old (w .0) (w .1) ∙ w .2)
+
+    pub others-put : (getD ls m 0 ≡ t → ⊥) → Others ls (m + 1) t out′ (r + 1)
+    others-put n = record {
+      few = omega (arith, s .few);
+      from = below-more _ r (λ i h. rw (old i h) (from-more i h)) (m, omega arith, sym new);
+      not = below-more _ r (λ i h q. s .not i h (sym (old i h) ∙ q)) (λ q. n (sym new ∙ q));
+      rising = λ i j h q. below-more (λ j. (i : ℕ) → i < j → getD out′ i 0 < getD out′ j 0) r (λ j q i h. omega (arith, old i (omega arith), old j q, s .rising i j h q)) (λ i h. omega (arith, old i h, new, smaller i h)) j q i h;
+      all = below-more _ m (λ i h q. stays (getD ls i 0) (s .all i h q)) (λ _. (r, omega arith, new));
+    }

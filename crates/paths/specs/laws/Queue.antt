@@ -8,6 +8,7 @@ use lib.Dec.{eqb}
 use lib.ListN.{length, getD}
 use Rattle.paths.specs.Paths.{Net, reach}
 use Rattle.paths.specs.laws.Cert.{Closed}
+use Rattle.paths.specs.laws.Listed.{Counts, Stands, Rising}
 
 -- how many of the first m elements are far
 unfoldable pub unset : ℕ → List ℕ → ℕ → ℕ
@@ -41,3 +42,12 @@ pub record State (g : Net) (cap : ℕ) (ds qs : List ℕ) (head tail : ℕ) : Ty
   pub top : head < tail → (i : ℕ) → i < g .size → getD ds i 0 < g .far → getD ds i 0 ≤ getD ds (getD qs head 0) 0 + 1
   pub shut : (i : ℕ) → i < g .size → getD ds i 0 < g .far → Waits qs head tail i ⊎ Closed g (λ j. getD ds j 0) i
   pub past : (i : ℕ) → g .size ≤ i → i < cap → getD ds i 0 ≡ g .far
+
+-- the first m of ls are clocks without a distance in rising order, and all such clocks from which a pair leads are among them
+pub record Rest (g : Net) (cap : ℕ) (ds ls : List ℕ) (m : ℕ) : Type 0 where
+  pub room : length ls ≡ cap
+  pub few : m ≤ g .size
+  pub below : (i : ℕ) → i < m → getD ls i 0 < g .size
+  pub rising : Rising ls m
+  pub free : (i : ℕ) → i < m → getD ds (getD ls i 0) 0 ≡ g .far
+  pub all : (e : ℕ) → e < g .size → Counts g e → getD ds e 0 ≡ g .far → Stands ls m e

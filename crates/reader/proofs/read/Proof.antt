@@ -11,7 +11,7 @@ fill-requires : tie.Need-fill-requires
 fill-requires c κs = search needs
 
 returns : tie.Need-returns
-returns c = (c .before .before .before .before .table .ensures .0, c .before .before .before .before .table .ensures .1, lookups-are _ (c .before .before .before .before .table .ensures .1) (c .before .before .before .before .table .ensures .2) (c .fill .ensures))
+returns c = (c .before .before .before .before .before .before .before .before .table .ensures .0, c .before .before .before .before .before .before .before .before .table .ensures .1, lookups-are _ (c .before .before .before .before .before .before .before .before .table .ensures .1) (c .before .before .before .before .before .before .before .before .table .ensures .2) (c .fill .ensures))
 
 pub read-spec : {M : Type 1} → statement M
 read-spec = tie.close (tie.spec table-requires fill-requires returns)

@@ -16,11 +16,19 @@ use Rattle.outline.specs.Outline.{rootFrom, rootAt}
 use Rattle.index.specs.Index.{indexOf, colOf, entriesIn, listed}
 use Rattle.survey.specs.Survey.{indexFrom}
 use Rattle.reader.specs.Reader.{tableOf, lookupsOf}
+use Rattle.named.specs.Prints.{pathPrints}
 use Rattle.named.specs.Named.{declaredIn, distinctAt, namesIn, nameTable, namePrint, printTable}
-use Rattle.finds.specs.Finds.{citedBy, citesOf, fromOne, lookups}
+use Rattle.finds.specs.Finds.{citedBy, citesOf, traceCited, fromOne, ofEntries, lookups}
+use Rattle.listed.specs.declared.PathFacts.{PathFacts}
 
 abbrev pub zeros : List ℕ
 zeros = replicate 2470 0
+
+-- what is known of the paths is right for an index: which entries are cited, and the prints of the entries that there are
+pub record Facts (s : Text) (ix : List ℕ) (f : PathFacts) : Type 0 where
+  pub cites-right : f .cites ≡ citesOf s ix
+  pub trace-right : f .trace ≡ traceCited s ix
+  pub prints-right : ofEntries ix (f .prints) ≡ ofEntries ix (pathPrints s ix)
 
 -- a refusal leaves zeros
 pub refused-zeros : (s : Text) {n : ℕ} → refusalOf s ≡ n → (n ≡ 0 → ⊥) → tableOf s ≡ zeros
@@ -63,6 +71,25 @@ zeros-cited : (s : Text) → map fromOne (citesOf s zeros) ≡ replicate 32 0
 unfolding fromOne pick
 zeros-cited s = ap (map fromOne) (zeros-cite s)
 
-pub zeros-lookups : (s : Text) → tableOf s ≡ zeros → lookupsOf s ≡ replicate 96 0
+-- they have no paths, and no `trace_time`
+zeros-pathless : (s : Text) → ofEntries zeros (pathPrints s zeros) ≡ replicate 32 0
+unfolding ofEntries entriesIn listed pick
+zeros-pathless s = refl
+
+zeros-untraced : (s : Text) → fromOne (traceCited s zeros) ≡ 0
+unfolding fromOne traceCited pick
+zeros-untraced s = refl
+
+pub zeros-lookups : (s : Text) → tableOf s ≡ zeros → lookupsOf s ≡ replicate 129 0
 unfolding lookupsOf lookups
-zeros-lookups s e = ap (lookups s) e ∙ (λ t. zeros-unnamed s t ++ (zeros-unprinted s t ++ zeros-cited s t))
+zeros-lookups s e = ap (lookups s) e ∙ (λ t. zeros-unnamed s t ++ (zeros-unprinted s t ++ (zeros-cited s t ++ (zeros-pathless s t ++ (zeros-untraced s t ∷ [])))))
+
+-- ---- and of their paths nothing is known
+
+pub zeros-facts : (s : Text) {ix : List ℕ} {f : PathFacts} → ix ≡ zeros → f .cites ≡ replicate 32 32 → f .trace ≡ 32 → Facts s ix f
+unfolding ofEntries entriesIn listed traceCited pick
+zeros-facts s {ix} {f} e c t = record {
+  cites-right = c ∙ sym (ap (citesOf s) e ∙ zeros-cite s);
+  trace-right = t ∙ sym (ap (traceCited s) e);
+  prints-right = ap (λ (l : List ℕ). ofEntries l (f .prints)) e ∙ sym (ap (λ (l : List ℕ). ofEntries l (pathPrints s l)) e);
+}

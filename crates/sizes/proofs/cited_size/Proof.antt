@@ -1,7 +1,7 @@
--- `sizes::cited_size` meets its contract: an entry cites at most one file, one machine in `clocks` and one in `sync_to`, and they are asked in that order.
+-- `sizes::cited_size` meets its contract: an entry cites at most one machine in `clocks` and one in `sync_to`, and they are asked in that order.
 -- Assumes nothing.
+use Rattle.sizes.proofs.Size.{own-machine-broken, sync-machine-decides}
 use borrow.Author.Needs.{needs}
-use Rattle.sizes.proofs.Size.{cited-file-broken, own-machine-broken, sync-machine-decides}
 use Rattle.sizes.proofs.cited_size.Statement.{statement}
 use Rattle.sizes.proofs.cited_size.Tie as tie
 
@@ -26,29 +26,17 @@ col-requires-4 c κs = search needs
 inside-requires-3 : tie.Need-inside-requires-3
 inside-requires-3 c κs = search needs
 
-col-requires-5 : tie.Need-col-requires-5
-col-requires-5 c κs = search needs
-
-inside-requires-4 : tie.Need-inside-requires-4
-inside-requires-4 c κs = search needs
-
-size-broken-requires : tie.Need-size-broken-requires
-size-broken-requires c κs = search needs
+name-broken-requires : tie.Need-name-broken-requires
+name-broken-requires c κs = search needs
 
 returns : tie.Need-returns
-returns c = cited-file-broken (c .before .before .before .before .before .before .before .before .before .before .before .before .args .s .now) (c .before .before .before .before .before .before .before .before .before .before .before .before .args .ix .now) (c .before .before .before .before .before .before .before .before .before .before .before .before .args .i) (c .before .before .before .before .before .before .before .before .before .before .col .ensures) (c .before .before .before .before .before .before .before .before .before .col2 .ensures) (c .before .before .before .before .before .before .before .before .inside .ensures) (c .before .before .before .before .before .before .before .col3 .ensures) (c .before .before .before .before .before .before .inside2 .ensures) (c .before .size-broken .ensures) (c .if1 .taken)
+returns c = own-machine-broken (c .before .before .before .before .before .before .before .before .before .before .args .s .now) (c .before .before .before .before .before .before .before .before .before .before .args .ix .now) (c .before .before .before .before .before .before .before .before .before .before .args .i) (c .before .before .before .before .before .before .before .before .col .ensures) (c .before .before .before .before .before .col3 .ensures) (c .before .before .before .before .inside2 .ensures) (c .before .name-broken .ensures) (c .if1 .taken)
 
-size-broken-requires-2 : tie.Need-size-broken-requires-2
-size-broken-requires-2 c κs = search needs
+name-broken-requires-2 : tie.Need-name-broken-requires-2
+name-broken-requires-2 c κs = search needs
 
 returns-2 : tie.Need-returns-2
-returns-2 c = own-machine-broken (c .before .before .before .before .before .before .before .before .before .before .before .before .before .before .args .s .now) (c .before .before .before .before .before .before .before .before .before .before .before .before .before .before .args .ix .now) (c .before .before .before .before .before .before .before .before .before .before .before .before .before .before .args .i) (c .before .before .before .before .before .before .before .before .before .before .before .before .col .ensures) (c .before .before .before .before .before .before .before .before .before .before .before .col2 .ensures) (c .before .before .before .before .before .before .before .before .before .before .inside .ensures) (c .before .before .before .before .before .before .before .before .before .col3 .ensures) (c .before .before .before .before .before .before .before .before .inside2 .ensures) (c .before .before .before .size-broken .ensures) (c .before .before .if1 .left) (c .before .before .before .before .before .before .before .col4 .ensures) (c .before .before .before .before .before .before .inside3 .ensures) (c .before .size-broken2 .ensures) (c .if2 .taken)
-
-size-broken-requires-3 : tie.Need-size-broken-requires-3
-size-broken-requires-3 c κs = search needs
-
-returns-3 : tie.Need-returns-3
-returns-3 c = sync-machine-decides (c .before .before .before .before .before .before .before .before .before .before .before .before .before .before .before .args .s .now) (c .before .before .before .before .before .before .before .before .before .before .before .before .before .before .before .args .ix .now) (c .before .before .before .before .before .before .before .before .before .before .before .before .before .before .before .args .i) (c .before .before .before .before .before .before .before .before .before .before .before .before .before .col .ensures) (c .before .before .before .before .before .before .before .before .before .before .before .before .col2 .ensures) (c .before .before .before .before .before .before .before .before .before .before .before .inside .ensures) (c .before .before .before .before .before .before .before .before .before .before .col3 .ensures) (c .before .before .before .before .before .before .before .before .before .inside2 .ensures) (c .before .before .before .before .size-broken .ensures) (c .before .before .before .if1 .left) (c .before .before .before .before .before .before .before .before .col4 .ensures) (c .before .before .before .before .before .before .before .inside3 .ensures) (c .before .before .size-broken2 .ensures) (c .before .if2 .left) (c .before .before .before .before .before .before .col5 .ensures) (c .before .before .before .before .before .inside4 .ensures) (c .size-broken3 .ensures)
+returns-2 c = sync-machine-decides (c .before .before .before .before .before .before .before .before .before .before .before .args .s .now) (c .before .before .before .before .before .before .before .before .before .before .before .args .ix .now) (c .before .before .before .before .before .before .before .before .before .before .before .args .i) (c .before .before .before .before .before .before .before .before .before .col .ensures) (c .before .before .before .before .before .before .col3 .ensures) (c .before .before .before .before .before .inside2 .ensures) (c .before .before .name-broken .ensures) (c .before .if1 .left) (c .before .before .before .before .before .before .before .before .col2 .ensures) (c .before .before .before .before .before .before .before .inside .ensures) (c .before .before .before .before .col4 .ensures) (c .before .before .before .inside3 .ensures) (c .name-broken2 .ensures)
 
 pub cited-size-spec : {M : Type 1} → statement M
 cited-size-spec =
@@ -61,11 +49,7 @@ cited-size-spec =
     inside-requires-2
     col-requires-4
     inside-requires-3
-    col-requires-5
-    inside-requires-4
-    size-broken-requires
+    name-broken-requires
     returns
-    size-broken-requires-2
-    returns-2
-    size-broken-requires-3
-    returns-3)
+    name-broken-requires-2
+    returns-2)

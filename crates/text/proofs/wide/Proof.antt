@@ -1,6 +1,6 @@
 -- `text::wide` meets its contract: the first byte tells how many bytes a character has, and the bytes after it are held to what `two`, `three` and `four` ask of them.
 -- Assumes nothing.
-use Rattle.text.proofs.Several.{several-below, several-above, several-second, several-two, several-third, several-three, several-fourth, several-four}
+use Rattle.text.proofs.SeveralBytes.{several-below, several-above, several-second, several-two, several-third, several-three, several-fourth, several-four}
 use native.Mathlib.Omega.{arith}
 use borrow.Author.Tests.{not-true, not-false}
 use borrow.Author.Needs.{needs}

@@ -14,6 +14,7 @@ use Rattle.text.specs.Reading.{Text, Out, done, bad, deep, next, pick, p
 use Rattle.text.specs.Class.{classOf}
 use Rattle.text.specs.Strings.{escape, two, three, four, classed, character, utf8, before, onward, characters}
 use Rattle.text.specs.Raw.{further, rawTurns, pastRaw}
+use Rattle.text.specs.Escapes.{bytesIn}
 use Rattle.text.specs.laws.Readers.{at, at-done-le, pick-case, pick-true, pick-false, bad-done, done-bad, done-at, done-of}
 use Rattle.text.specs.laws.Strings.{character-strict, character-bounded, character-end, characters-more, characters-turns}
 use Rattle.text.specs.laws.Class.{class-within}
@@ -289,15 +290,19 @@ raw-reads s i {r} e =
 
 -- the character at i has r bytes and is not escaped; 0 if there is none
 pub record Wide (s : Text) (i r : ℕ) : Type 0 where
+  pub read : r ≡ bytesIn i (character s i)
   pub within : i + r ≤ length s
   pub none : r ≡ 0 → pastRaw s i ≡ i
   pub some : (r ≡ 0 → ⊥) → pastRaw s i ≡ pastRaw s (i + r)
 
 module _ (s : Text) (i : ℕ) (l : i ≤ length s) where
   pub wide-none : {p : ℕ} → character s i ≡ bad p → Wide s i 0
-  wide-none e = record { within = omega arith; none = λ _. raw-stop s i e; some = λ n. absurd (n refl) }
+  unfolding bytesIn
+  wide-none e = record { read = sym (ap (bytesIn i) e); within = omega arith; none = λ _. raw-stop s i e; some = λ n. absurd (n refl) }
 
   pub wide-some : {v r : ℕ} → (peek s i ≡ 92 → ⊥) → character s i ≡ done v (i + r) → Wide s i r
+  unfolding bytesIn
   wide-some {v} {r} n e =
       let g : i < i + r = character-strict s i v (i + r) e in
-      record { within = at-done-le (character-bounded s i l) e; none = λ (z : r ≡ 0). absurd (omega arith); some = λ _. raw-step s i n e }
+      let z : i + r - i ≡ r = omega arith in
+      record { read = sym (ap (bytesIn i) e ∙ z); within = at-done-le (character-bounded s i l) e; none = λ (z : r ≡ 0). absurd (omega arith); some = λ _. raw-step s i n e }

@@ -301,7 +301,7 @@ bound a b h = go (eqb a 13) refl h
     go true e l = (omega arith, λ _. l)
     go false e l = (l, λ z. absurd (eqb-false a 13 e z))
 
-quad-value : (s : Text) (i : ℕ) {v j : ℕ} → quad s i ≡ done v j → (v < 65536) × (v / 1024 ≡ 55 → ⊥)
+pub quad-value : (s : Text) (i : ℕ) {v j : ℕ} → quad s i ≡ done v j → (v < 65536) × (v / 1024 ≡ 55 → ⊥)
 unfolding quad
 quad-value s i {v} {j} e =
     pick-case _ _ _ e
@@ -346,7 +346,7 @@ among-low (range lo hi k ∷ rs) h b =
     go true false p q = q
     go false y p q = q
 
-escape-low : (b : ℕ) → escapeOf b < 128
+pub escape-low : (b : ℕ) → escapeOf b < 128
 unfolding escapeOf given-low
 escape-low b =
     among-low

@@ -44,19 +44,19 @@ add-result : tie.Need-add-result Inv-loop μ-loop
 add-result c = search needs
 
 returns-3 : tie.Need-returns-3 Inv-loop μ-loop
-returns-3 c = ends-byte-other _ _ _ _ (c .before .before .before .before .before .before .loop .inv .1) (c .before .before .before .before .before .byte .ensures) (c .before .before .before .before .if1 .left) (c .before .before .before .ordinary .ensures (not-false (c .before .before .before .ordinary .result) (c .before .before .if2 .left))) (c .before .byte2 .ensures) (c .if3 .taken)
+returns-3 c = ends-byte-other _ _ _ _ (c .before .before .before .before .before .before .loop .inv .1) (c .before .before .before .before .before .byte .ensures) (c .before .before .before .before .if1 .left) (c .before .before .before .ordinary .ensures .0 (not-false (c .before .before .before .ordinary .result) (c .before .before .if2 .left))) (c .before .byte2 .ensures) (c .if3 .taken)
 
 add-i : tie.Need-add-i Inv-loop μ-loop
-add-i c = omega (arith, inside _ _ (c .before .before .before .before .before .byte .ensures) (c .before .before .before .ordinary .ensures (not-false (c .before .before .before .ordinary .result) (c .before .before .if2 .left))))
+add-i c = omega (arith, inside _ _ (c .before .before .before .before .before .byte .ensures) (c .before .before .before .ordinary .ensures .0 (not-false (c .before .before .before .ordinary .result) (c .before .before .if2 .left))))
 
 add-n : tie.Need-add-n Inv-loop μ-loop
-add-n c = omega (arith, inside _ _ (sym (c .if3 .left) ∙ c .before .byte2 .ensures) (c .before .before .before .ordinary .ensures (not-false (c .before .before .before .ordinary .result) (c .before .before .if2 .left))))
+add-n c = omega (arith, inside _ _ (sym (c .if3 .left) ∙ c .before .byte2 .ensures) (c .before .before .before .ordinary .ensures .0 (not-false (c .before .before .before .ordinary .result) (c .before .before .if2 .left))))
 
 loop-less : tie.Need-loop-less Inv-loop μ-loop
-loop-less c = omega (arith, inside _ _ (c .before .before .before .before .before .byte .ensures) (c .before .before .before .ordinary .ensures (not-false (c .before .before .before .ordinary .result) (c .before .before .if2 .left))))
+loop-less c = omega (arith, inside _ _ (c .before .before .before .before .before .byte .ensures) (c .before .before .before .ordinary .ensures .0 (not-false (c .before .before .before .ordinary .result) (c .before .before .if2 .left))))
 
 loop-again : tie.Need-loop-again Inv-loop μ-loop
-loop-again c = (omega (arith, inside _ _ (sym (c .if3 .left) ∙ c .before .byte2 .ensures) (c .before .before .before .ordinary .ensures (not-false (c .before .before .before .ordinary .result) (c .before .before .if2 .left)))), ends-byte-more _ _ _ _ (c .before .before .before .before .before .before .loop .inv .1) (c .before .before .before .before .before .byte .ensures) (c .before .before .before .before .if1 .left) (c .before .before .before .ordinary .ensures (not-false (c .before .before .before .ordinary .result) (c .before .before .if2 .left))) (c .before .byte2 .ensures) (c .if3 .left))
+loop-again c = (omega (arith, inside _ _ (sym (c .if3 .left) ∙ c .before .byte2 .ensures) (c .before .before .before .ordinary .ensures .0 (not-false (c .before .before .before .ordinary .result) (c .before .before .if2 .left)))), ends-byte-more _ _ _ _ (c .before .before .before .before .before .before .loop .inv .1) (c .before .before .before .before .before .byte .ensures) (c .before .before .before .before .if1 .left) (c .before .before .before .ordinary .ensures .0 (not-false (c .before .before .before .ordinary .result) (c .before .before .if2 .left))) (c .before .byte2 .ensures) (c .if3 .left))
 
 pub begun-spec : {M : Type 1} → statement M
 begun-spec =

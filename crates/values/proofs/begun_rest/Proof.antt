@@ -1,22 +1,20 @@
--- `values::begun_rest` meets its contract. The loop's invariant: what is left of the string ends in the text, where it was the same up to `end`, as the string did from the start. A byte that is a character by itself is compared as a byte, which is one step of the same kind; and characters of several bytes that are the same in both are passed in a row.
+-- `values::begun_rest` meets its contract. The loop keeps that what is left of the string ends in the text, where it was the same up to `end`, as the string did from the start; `end` lies past the text once the two differ. A character, however it is told, is one step of that kind, and characters of several bytes that are the same in both are passed in a row.
 -- Assumes nothing.
-use Rattle.values.specs.laws.Ordinary.{inside}
+use mathlib.Core.Path.{_≡_, refl, sym, _∙_}
+use Prim.Native.Nat.{_+_, _≤_, _-_}
+use native.Mathlib.Omega.{arith}
+use lib.ListN.{length}
+use Rattle.text.specs.laws.Escapes.{short-reads, short-few}
 use Rattle.values.specs.Strings.{rest}
 use Rattle.values.specs.laws.Compared.{endsFrom}
-use Rattle.values.specs.laws.Rest.{code-of, code-no}
-use Rattle.values.proofs.Widths.{character-in, some-byte}
-use Rattle.values.proofs.Compare.{ends-close, ends-other, ends-over, ends-more, ends-stop, ends-byte-other, ends-byte-more, ends-raws}
+use Rattle.values.specs.laws.Ordinary.{reads-itself}
+use Rattle.values.proofs.Compare.{ahead, short-open, ends-close, ends-all, ends-more, ends-stop, ends-raws, coded-some, coded-ahead}
 use borrow.Author.Needs.{needs}
-use borrow.Author.Tests.{not-true, not-false}
-use lib.ListN.{length}
-use native.Mathlib.Omega.{arith}
-use Prim.Native.Nat.{_≤_, _-_}
-use mathlib.Core.Path.{_≡_, refl, sym, _∙_}
 use Rattle.values.proofs.begun_rest.Statement.{statement}
 use Rattle.values.proofs.begun_rest.Tie as tie
 
 abbrev Inv-loop : tie.InvT-loop
-Inv-loop s from t start other i₀ end₀ i end = (end ≤ length t) × (endsFrom (rest s i) t end ≡ endsFrom (rest s from) t start)
+Inv-loop s from t start other i₀ end₀ i end = (end ≤ length t + 1) × (endsFrom (rest s i) t end ≡ endsFrom (rest s from) t start)
 
 abbrev μ-loop : tie.MeasureT-loop
 μ-loop s from t start other i₀ end₀ i end = length s - i
@@ -25,82 +23,82 @@ add-other : tie.Need-add-other Inv-loop μ-loop
 add-other c = search needs
 
 loop-holds : tie.Need-loop-holds Inv-loop μ-loop
-loop-holds c = (c .before .before .pre, refl)
+loop-holds c = (omega (arith, c .before .before .pre), refl)
+
+short-requires : tie.Need-short-requires Inv-loop μ-loop
+short-requires c κs = search needs
+
+past-one-requires : tie.Need-past-one-requires Inv-loop μ-loop
+past-one-requires c κs = short-few _ _ (c .before .short .ensures)
+
+add-i : tie.Need-add-i Inv-loop μ-loop
+add-i c = omega (arith, ahead _ (short-reads _ _ (c .before .before .short .ensures) (c .before .if1 .taken)) .0, ahead _ (short-reads _ _ (c .before .before .short .ensures) (c .before .if1 .taken)) .1)
+
+loop-less : tie.Need-loop-less Inv-loop μ-loop
+loop-less c = omega (arith, ahead _ (short-reads _ _ (c .before .before .short .ensures) (c .before .if1 .taken)) .0, ahead _ (short-reads _ _ (c .before .before .short .ensures) (c .before .if1 .taken)) .1)
+
+loop-again : tie.Need-loop-again Inv-loop μ-loop
+loop-again c = (c .past-one .ensures .within, ends-more _ _ _ _ (c .before .before .before .before .loop .inv .1) (short-open _ _ (c .before .before .short .ensures) (c .before .if1 .taken)) (short-reads _ _ (c .before .before .short .ensures) (c .before .if1 .taken)) (c .past-one .ensures))
 
 byte-requires : tie.Need-byte-requires Inv-loop μ-loop
 byte-requires c κs = search needs
 
 returns : tie.Need-returns Inv-loop μ-loop
-returns c = ends-close _ _ _ _ (c .before .before .loop .inv .1) (c .before .before .loop .inv .0) (sym (c .before .byte .ensures) ∙ c .if1 .taken)
+returns c = ends-close _ _ _ _ (c .before .before .before .before .before .loop .inv .1) (c .before .before .before .before .loop-test .taken) (sym (c .before .byte .ensures) ∙ c .if2 .taken)
 
 ordinary-requires : tie.Need-ordinary-requires Inv-loop μ-loop
 ordinary-requires c κs = search needs
 
-byte-requires-2 : tie.Need-byte-requires-2 Inv-loop μ-loop
-byte-requires-2 c κs = search needs
+past-one-requires-2 : tie.Need-past-one-requires-2 Inv-loop μ-loop
+past-one-requires-2 c κs = omega (arith, c .before .ordinary .ensures .0 (c .if3 .taken) .high)
 
-returns-2 : tie.Need-returns-2 Inv-loop μ-loop
-returns-2 c = ends-byte-other _ _ _ _ (c .before .before .before .before .before .before .loop .inv .1) (c .before .before .before .before .before .byte .ensures) (c .before .before .before .before .if1 .left) (c .before .before .before .ordinary .ensures (c .before .before .if2 .taken)) (c .before .byte2 .ensures) (c .if3 .taken)
+add-i-2 : tie.Need-add-i-2 Inv-loop μ-loop
+add-i-2 c = omega (arith, ahead _ (reads-itself _ _ (c .before .before .before .before .byte .ensures) (c .before .before .ordinary .ensures .0 (c .before .if3 .taken)) (c .before .before .before .if2 .left)) .0, ahead _ (reads-itself _ _ (c .before .before .before .before .byte .ensures) (c .before .before .ordinary .ensures .0 (c .before .if3 .taken)) (c .before .before .before .if2 .left)) .1)
 
-add-i : tie.Need-add-i Inv-loop μ-loop
-add-i c = omega (arith, inside _ _ (c .before .before .before .before .before .byte .ensures) (c .before .before .before .ordinary .ensures (c .before .before .if2 .taken)))
+loop-less-2 : tie.Need-loop-less-2 Inv-loop μ-loop
+loop-less-2 c = omega (arith, ahead _ (reads-itself _ _ (c .before .before .before .before .byte .ensures) (c .before .before .ordinary .ensures .0 (c .before .if3 .taken)) (c .before .before .before .if2 .left)) .0, ahead _ (reads-itself _ _ (c .before .before .before .before .byte .ensures) (c .before .before .ordinary .ensures .0 (c .before .if3 .taken)) (c .before .before .before .if2 .left)) .1)
 
-add-end : tie.Need-add-end Inv-loop μ-loop
-add-end c = omega (arith, inside _ _ (sym (c .if3 .left) ∙ c .before .byte2 .ensures) (c .before .before .before .ordinary .ensures (c .before .before .if2 .taken)))
-
-loop-less : tie.Need-loop-less Inv-loop μ-loop
-loop-less c = omega (arith, inside _ _ (c .before .before .before .before .before .byte .ensures) (c .before .before .before .ordinary .ensures (c .before .before .if2 .taken)))
-
-loop-again : tie.Need-loop-again Inv-loop μ-loop
-loop-again c = (omega (arith, inside _ _ (sym (c .if3 .left) ∙ c .before .byte2 .ensures) (c .before .before .before .ordinary .ensures (c .before .before .if2 .taken))), ends-byte-more _ _ _ _ (c .before .before .before .before .before .before .loop .inv .1) (c .before .before .before .before .before .byte .ensures) (c .before .before .before .before .if1 .left) (c .before .before .before .ordinary .ensures (c .before .before .if2 .taken)) (c .before .byte2 .ensures) (c .if3 .left))
+loop-again-2 : tie.Need-loop-again-2 Inv-loop μ-loop
+loop-again-2 c = (c .past-one2 .ensures .within, ends-more _ _ _ _ (c .before .before .before .before .before .before .before .before .loop .inv .1) (λ q. c .before .before .before .if2 .left (c .before .before .before .before .byte .ensures ∙ q)) (reads-itself _ _ (c .before .before .before .before .byte .ensures) (c .before .before .ordinary .ensures .0 (c .before .if3 .taken)) (c .before .before .before .if2 .left)) (c .past-one2 .ensures))
 
 raw-alike-requires : tie.Need-raw-alike-requires Inv-loop μ-loop
 raw-alike-requires c κs = search needs
 
-add-i-2 : tie.Need-add-i-2 Inv-loop μ-loop
-add-i-2 c = omega (arith, c .before .raw-alike .ensures .left)
+add-i-3 : tie.Need-add-i-3 Inv-loop μ-loop
+add-i-3 c = omega (arith, c .before .raw-alike .ensures .left)
 
-add-end-2 : tie.Need-add-end-2 Inv-loop μ-loop
-add-end-2 c = omega (arith, c .before .raw-alike .ensures .right)
-
-loop-less-2 : tie.Need-loop-less-2 Inv-loop μ-loop
-loop-less-2 c = omega (arith, c .before .raw-alike .ensures .left)
-
-loop-again-2 : tie.Need-loop-again-2 Inv-loop μ-loop
-loop-again-2 c = (omega (arith, c .before .raw-alike .ensures .right), ends-raws _ _ _ _ (c .before .before .before .before .before .before .loop .inv .1) (c .before .raw-alike .ensures))
-
-character-requires : tie.Need-character-requires Inv-loop μ-loop
-character-requires c κs = search needs
-
-enum-known-v : tie.Need-enum-known-v Inv-loop μ-loop
-enum-known-v c = search needs
-
-starts-requires : tie.Need-starts-requires Inv-loop μ-loop
-starts-requires c κs = omega arith
-
-returns-3 : tie.Need-returns-3 Inv-loop μ-loop
-returns-3 c = ends-other _ _ _ _ (c .before .before .before .before .before .before .before .before .before .before .before .before .loop .inv .1) (λ q. c .before .before .before .before .before .before .before .before .before .before .if1 .left (c .before .before .before .before .before .before .before .before .before .before .before .byte .ensures ∙ q)) (code-of _ (c .before .before .before .before .before .character .ensures) (c .before .before .before .v .given .1)) (c .before .starts .ensures) (not-true (c .before .starts .result) (c .if5 .taken))
-
-width-requires : tie.Need-width-requires Inv-loop μ-loop
-width-requires c κs = search needs
-
-add-end-3 : tie.Need-add-end-3 Inv-loop μ-loop
-add-end-3 c = omega (arith, c .width .ensures)
-
-returns-4 : tie.Need-returns-4 Inv-loop μ-loop
-returns-4 c = ends-over _ _ _ _ (c .before .before .before .before .before .before .before .before .before .before .before .before .before .before .loop .inv .1) (λ q. c .before .before .before .before .before .before .before .before .before .before .before .before .if1 .left (c .before .before .before .before .before .before .before .before .before .before .before .before .before .byte .ensures ∙ q)) (code-of _ (c .before .before .before .before .before .before .before .character .ensures) (c .before .before .before .before .before .v .given .1)) (c .before .before .before .starts .ensures) (not-false (c .before .before .before .starts .result) (c .before .before .if5 .left)) (c .before .width .ensures .0) (c .if6 .taken)
+add-end : tie.Need-add-end Inv-loop μ-loop
+add-end c = omega (arith, c .before .raw-alike .ensures .right)
 
 loop-less-3 : tie.Need-loop-less-3 Inv-loop μ-loop
-loop-less-3 c = omega (arith, character-in _ (code-of _ (c .before .before .before .before .before .before .before .character .ensures) (c .before .before .before .before .before .v .given .1)), some-byte (c .before .before .before .before .before .v .given .0 .0))
+loop-less-3 c = omega (arith, c .before .raw-alike .ensures .left)
 
 loop-again-3 : tie.Need-loop-again-3 Inv-loop μ-loop
-loop-again-3 c = (omega arith, ends-more _ _ _ _ (c .before .before .before .before .before .before .before .before .before .before .before .before .before .before .loop .inv .1) (λ q. c .before .before .before .before .before .before .before .before .before .before .before .before .if1 .left (c .before .before .before .before .before .before .before .before .before .before .before .before .before .byte .ensures ∙ q)) (code-of _ (c .before .before .before .before .before .before .before .character .ensures) (c .before .before .before .before .before .v .given .1)) (c .before .before .before .starts .ensures) (not-false (c .before .before .before .starts .result) (c .before .before .if5 .left)) (c .before .width .ensures .0))
+loop-again-3 c = (omega (arith, c .before .raw-alike .ensures .right), ends-raws _ _ _ _ (c .before .before .before .before .before .before .before .before .before .loop .inv .1) (c .before .raw-alike .ensures))
 
-enum-told : tie.Need-enum-told Inv-loop μ-loop
-enum-told c = search needs
+wide-code-requires : tie.Need-wide-code-requires Inv-loop μ-loop
+wide-code-requires c κs = (c .before .before .before .before .before .byte .ensures, sym (c .before .before .before .before .before .before .before .short .ensures) ∙ omega (arith, c .before .before .before .before .before .before .if1 .left))
 
-returns-5 : tie.Need-returns-5 Inv-loop μ-loop
-returns-5 c = ends-stop _ _ _ _ (c .before .before .before .before .before .before .before .before .before .loop .inv .1) (λ q. c .before .before .before .before .before .before .before .if1 .left (c .before .before .before .before .before .before .before .before .byte .ensures ∙ q)) (code-no _ (c .before .before .character .ensures) (c .enum-told .given .1))
+returns-2 : tie.Need-returns-2 Inv-loop μ-loop
+returns-2 c = ends-stop _ _ _ _ (c .before .before .before .before .before .before .before .before .before .before .before .loop .inv .1) (λ q. c .before .before .before .before .before .before .if2 .left (c .before .before .before .before .before .before .before .byte .ensures ∙ q)) (c .before .wide-code .ensures .none (c .if5 .taken))
+
+past-code-requires : tie.Need-past-code-requires Inv-loop μ-loop
+past-code-requires c κs = c .before .before .before .before .before .before .before .before .before .before .loop-test .taken
+
+cast-i : tie.Need-cast-i Inv-loop μ-loop
+cast-i c = omega arith
+
+add-i-4 : tie.Need-add-i-4 Inv-loop μ-loop
+add-i-4 c = omega (arith, coded-ahead _ _ (c .before .before .wide-code .ensures) (c .before .if5 .left) .0)
+
+loop-less-4 : tie.Need-loop-less-4 Inv-loop μ-loop
+loop-less-4 c = omega (arith, coded-ahead _ _ (c .before .before .wide-code .ensures) (c .before .if5 .left) .0, coded-ahead _ _ (c .before .before .wide-code .ensures) (c .before .if5 .left) .1)
+
+loop-again-4 : tie.Need-loop-again-4 Inv-loop μ-loop
+loop-again-4 c = (c .past-code .ensures .within, ends-more _ _ _ _ (c .before .before .before .before .before .before .before .before .before .before .before .before .loop .inv .1) (λ q. c .before .before .before .before .before .before .before .if2 .left (c .before .before .before .before .before .before .before .before .byte .ensures ∙ q)) (coded-some (c .before .before .wide-code .ensures) (c .before .if5 .left)) (c .past-code .ensures))
+
+returns-3 : tie.Need-returns-3 Inv-loop μ-loop
+returns-3 c = ends-all _ _ _ _ (c .before .loop .inv .1) (omega (arith, c .loop-test .left)) (c .before .loop .inv .0)
 
 pub begun-rest-spec : {M : Type 1} → statement M
 begun-rest-spec =
@@ -110,28 +108,28 @@ begun-rest-spec =
     μ-loop
     add-other
     loop-holds
+    short-requires
+    past-one-requires
+    add-i
+    loop-less
+    loop-again
     byte-requires
     returns
     ordinary-requires
-    byte-requires-2
-    returns-2
-    add-i
-    add-end
-    loop-less
-    loop-again
-    raw-alike-requires
+    past-one-requires-2
     add-i-2
-    add-end-2
     loop-less-2
     loop-again-2
-    character-requires
-    enum-known-v
-    starts-requires
-    returns-3
-    width-requires
-    add-end-3
-    returns-4
+    raw-alike-requires
+    add-i-3
+    add-end
     loop-less-3
     loop-again-3
-    enum-told
-    returns-5)
+    wide-code-requires
+    returns-2
+    past-code-requires
+    cast-i
+    add-i-4
+    loop-less-4
+    loop-again-4
+    returns-3)

@@ -17,7 +17,7 @@ ordinary-requires : tie.Need-ordinary-requires
 ordinary-requires c κs = search needs
 
 returns : tie.Need-returns
-returns c = λ e. (c .before .ordinary .ensures (c .if1 .taken), λ q. unlike (sym (ap not (eq-eqb _ _ q)) ∙ e))
+returns c = λ e. (c .before .ordinary .ensures .0 (c .if1 .taken), λ q. unlike (sym (ap not (eq-eqb _ _ q)) ∙ e))
 
 returns-2 : tie.Need-returns-2
 returns-2 c = λ e. (untold _ e, λ _. unlike e)

@@ -4,11 +4,9 @@ use mathlib.Core.Path.{_≡_, refl, sym, _∙_}
 use Prim.Native.Nat.{_-_}
 use native.Mathlib.Omega.{arith}
 use lib.ListN.{length}
-use borrow.Author.Needs.{needs}
-use Rattle.values.proofs.Compare.{both-close, both-longer, both-other, both-more, both-stop-left, both-stop-right}
-use Rattle.values.proofs.Widths.{character-in, some-byte}
-use Rattle.values.specs.laws.Rest.{code-of, code-no}
+use Rattle.values.proofs.Compare.{both-close, both-longer, both-other, both-more, both-stop-left, both-stop-right, coded-some, coded-ahead}
 use Rattle.values.specs.Strings.{bothText, rest}
+use borrow.Author.Needs.{needs}
 use Rattle.values.proofs.same_rest.Statement.{statement}
 use Rattle.values.proofs.same_rest.Tie as tie
 
@@ -48,38 +46,38 @@ loop-less c = omega (arith, c .before .row .ensures .left)
 loop-again : tie.Need-loop-again Inv-loop μ-loop
 loop-again c = c .before .row .ensures .on ∙ c .before .before .before .before .before .before .loop .inv
 
-character-requires : tie.Need-character-requires Inv-loop μ-loop
-character-requires c κs = search needs
-
-enum-known-v : tie.Need-enum-known-v Inv-loop μ-loop
-enum-known-v c = search needs
-
-character-requires-2 : tie.Need-character-requires-2 Inv-loop μ-loop
-character-requires-2 c κs = search needs
-
-enum-known-w : tie.Need-enum-known-w Inv-loop μ-loop
-enum-known-w c = search needs
+code-at-requires : tie.Need-code-at-requires Inv-loop μ-loop
+code-at-requires c κs = (c .before .before .before .before .before .byte .ensures, c .before .before .before .if1 .left)
 
 returns-3 : tie.Need-returns-3 Inv-loop μ-loop
-returns-3 c = both-other _ _ _ (c .before .before .before .before .before .before .before .before .before .before .before .before .before .before .before .loop .inv) (λ e. c .before .before .before .before .before .before .before .before .before .before .before .before .if1 .left (c .before .before .before .before .before .before .before .before .before .before .before .before .before .before .byte .ensures ∙ e)) (λ e. c .before .before .before .before .before .before .before .before .before .before .before .if2 .left (c .before .before .before .before .before .before .before .before .before .before .before .before .before .byte2 .ensures ∙ e)) (code-of _ (c .before .before .before .before .before .before .before .before .character .ensures) (c .before .before .before .before .before .before .v .given .1)) (code-of _ (c .before .before .before .before .character2 .ensures) (c .before .before .w .given .1)) (c .if4 .taken)
+returns-3 c = both-stop-left _ _ _ (c .before .before .before .before .before .before .before .before .loop .inv) (λ e. c .before .before .before .before .before .if1 .left (c .before .before .before .before .before .before .before .byte .ensures ∙ e)) (c .before .code-at .ensures .none (c .if4 .taken))
 
-loop-less-2 : tie.Need-loop-less-2 Inv-loop μ-loop
-loop-less-2 c = omega (arith, character-in _ (code-of _ (c .before .before .before .before .before .before .before .before .character .ensures) (c .before .before .before .before .before .before .v .given .1)), some-byte (c .before .before .before .before .before .before .v .given .0 .0))
-
-loop-again-2 : tie.Need-loop-again-2 Inv-loop μ-loop
-loop-again-2 c = both-more _ _ _ (c .before .before .before .before .before .before .before .before .before .before .before .before .before .before .before .loop .inv) (λ e. c .before .before .before .before .before .before .before .before .before .before .before .before .if1 .left (c .before .before .before .before .before .before .before .before .before .before .before .before .before .before .byte .ensures ∙ e)) (λ e. c .before .before .before .before .before .before .before .before .before .before .before .if2 .left (c .before .before .before .before .before .before .before .before .before .before .before .before .before .byte2 .ensures ∙ e)) (code-of _ (c .before .before .before .before .before .before .before .before .character .ensures) (c .before .before .before .before .before .before .v .given .1)) (code-of _ (c .before .before .before .before .character2 .ensures) (c .before .before .w .given .1)) (c .if4 .left)
-
-enum-told : tie.Need-enum-told Inv-loop μ-loop
-enum-told c = search needs
+code-at-requires-2 : tie.Need-code-at-requires-2 Inv-loop μ-loop
+code-at-requires-2 c κs = (c .before .before .before .before .before .before .byte2 .ensures, c .before .before .before .before .if2 .left)
 
 returns-4 : tie.Need-returns-4 Inv-loop μ-loop
-returns-4 c = both-stop-right _ _ _ (c .before .before .before .before .before .before .before .before .before .before .before .before .before .loop .inv) (λ e. c .before .before .before .before .before .before .before .before .before .if2 .left (c .before .before .before .before .before .before .before .before .before .before .before .byte2 .ensures ∙ e)) (code-no _ (c .before .before .character2 .ensures) (c .enum-told .given .1))
-
-enum-told-2 : tie.Need-enum-told-2 Inv-loop μ-loop
-enum-told-2 c = search needs
+returns-4 c = both-stop-right _ _ _ (c .before .before .before .before .before .before .before .before .before .before .loop .inv) (λ e. c .before .before .before .before .before .before .if2 .left (c .before .before .before .before .before .before .before .before .byte2 .ensures ∙ e)) (c .before .code-at2 .ensures .none (c .if5 .taken))
 
 returns-5 : tie.Need-returns-5 Inv-loop μ-loop
-returns-5 c = both-stop-left _ _ _ (c .before .before .before .before .before .before .before .before .before .loop .inv) (λ e. c .before .before .before .before .before .before .if1 .left (c .before .before .before .before .before .before .before .before .byte .ensures ∙ e)) (code-no _ (c .before .before .character .ensures) (c .enum-told2 .given .1))
+returns-5 c = both-other _ _ _ (c .before .before .before .before .before .before .before .before .before .before .before .loop .inv) (λ e. c .before .before .before .before .before .before .before .before .if1 .left (c .before .before .before .before .before .before .before .before .before .before .byte .ensures ∙ e)) (λ e. c .before .before .before .before .before .before .before .if2 .left (c .before .before .before .before .before .before .before .before .before .byte2 .ensures ∙ e)) (coded-some (c .before .before .before .before .code-at .ensures) (c .before .before .before .if4 .left)) (coded-some (c .before .before .code-at2 .ensures) (c .before .if5 .left)) (c .if6 .taken)
+
+cast-i : tie.Need-cast-i Inv-loop μ-loop
+cast-i c = omega arith
+
+add-i-2 : tie.Need-add-i-2 Inv-loop μ-loop
+add-i-2 c = omega (arith, coded-ahead _ _ (c .before .before .before .before .code-at .ensures) (c .before .before .before .if4 .left) .0)
+
+cast-k : tie.Need-cast-k Inv-loop μ-loop
+cast-k c = omega arith
+
+add-k-2 : tie.Need-add-k-2 Inv-loop μ-loop
+add-k-2 c = omega (arith, coded-ahead _ _ (c .before .before .code-at2 .ensures) (c .before .if5 .left) .0)
+
+loop-less-2 : tie.Need-loop-less-2 Inv-loop μ-loop
+loop-less-2 c = omega (arith, coded-ahead _ _ (c .before .before .before .before .code-at .ensures) (c .before .before .before .if4 .left) .0, coded-ahead _ _ (c .before .before .before .before .code-at .ensures) (c .before .before .before .if4 .left) .1)
+
+loop-again-2 : tie.Need-loop-again-2 Inv-loop μ-loop
+loop-again-2 c = both-more _ _ _ (c .before .before .before .before .before .before .before .before .before .before .before .loop .inv) (λ e. c .before .before .before .before .before .before .before .before .if1 .left (c .before .before .before .before .before .before .before .before .before .before .byte .ensures ∙ e)) (λ e. c .before .before .before .before .before .before .before .if2 .left (c .before .before .before .before .before .before .before .before .before .byte2 .ensures ∙ e)) (coded-some (c .before .before .before .before .code-at .ensures) (c .before .before .before .if4 .left)) (coded-some (c .before .before .code-at2 .ensures) (c .before .if5 .left)) (c .if6 .left)
 
 pub same-rest-spec : {M : Type 1} → statement M
 same-rest-spec =
@@ -97,14 +95,14 @@ same-rest-spec =
     add-k
     loop-less
     loop-again
-    character-requires
-    enum-known-v
-    character-requires-2
-    enum-known-w
+    code-at-requires
     returns-3
-    loop-less-2
-    loop-again-2
-    enum-told
+    code-at-requires-2
     returns-4
-    enum-told-2
-    returns-5)
+    returns-5
+    cast-i
+    add-i-2
+    cast-k
+    add-k-2
+    loop-less-2
+    loop-again-2)

@@ -1,17 +1,15 @@
 -- Plain bytes at two positions, of two texts or of one, that are the same. Assumes nothing.
 use mathlib.Core.Path.{_≡_, refl, sym, ap, subst, _∙_}
 use mathlib.Core.Bool.{Bool, true, false, _&&_}
-use Prim.Native.Nat.{ℕ, suc, _+_, _*_, _-_, _≤_, _<_}
-use native.Mathlib.Nat.{zero-add, not-suc-le-zero}
+use Prim.Native.Nat.{ℕ, suc, _+_, _-_, _≤_, _<_}
+use native.Mathlib.Nat.{not-suc-le-zero}
 use native.Mathlib.Decide.{ℕ-discrete, decLt}
 use native.Mathlib.Omega.{arith}
 use lib.ListN.{length, getD}
 use lib.Dec.{eqb}
-use lib.Count.{trailingZeros}
 use borrow.Author.Tests.{eqb-true}
 use Rattle.text.specs.Reading.{Text, peek}
 use Rattle.text.specs.laws.Peek.{peek-at}
-use Rattle.text.specs.laws.Marks.{marks, First, first-no}
 use Rattle.text.specs.laws.Plain.{own}
 
 -- two bytes are one plain byte twice
@@ -30,18 +28,6 @@ pub record Alike (s : Text) (i : ℕ) (t : Text) (k r : ℕ) : Type 0 where
 
 pub alike-none : (s : Text) (i : ℕ) (t : Text) (k : ℕ) → i ≤ length s → k ≤ length t → Alike s i t k 0
 alike-none s i t k g h = record { left = omega arith; right = omega arith; each = λ j l. absurd (not-suc-le-zero l) }
-
-module _ (s : Text) (i k : ℕ) where
-  pub alike-marks : i + 8 ≤ length s → k + 8 ≤ length s → {m r : ℕ} → m ≡ 3 * marks (twiceAt s i s k) 0 8 → r ≡ trailingZeros 16 m → Alike s i s k r
-  alike-marks g h {m} {r} e f = told (rw q (first-no (twiceAt s i s k) 8 16 0 (omega arith)))
-    where
-      q : r ≡ trailingZeros 16 (3 * marks (twiceAt s i s k) 0 8)
-      q = f ∙ ap (trailingZeros 16) e
-
-      told : First (twiceAt s i s k) 0 8 r → Alike s i s k r
-      told a =
-          let w : r ≤ 8 = a .within in
-          record { left = omega arith; right = omega arith; each = λ j l. ap (twiceAt s i s k) (sym (zero-add j)) ∙ a .yes j l }
 
 -- one plain byte twice, within the texts
 pub record Twice (s : Text) (i : ℕ) (t : Text) (k : ℕ) : Type 0 where

@@ -1,10 +1,12 @@
 -- A text compared with bytes that come one after the other: whether they stand in it, and where they end. Assumes nothing.
 use mathlib.Core.Bool.{Bool, _&&_}
 use mathlib.Core.List.{[], _∷_}
-use Prim.Native.Nat.{ℕ, _+_}
+use mathlib.Core.Path.{_≡_}
+use Prim.Native.Nat.{ℕ, _+_, _≤_}
 use lib.ListN.{length}
 use lib.Dec.{eqb, leb}
-use Rattle.text.specs.Reading.{Text, Out, done, bad, deep, pick, peek}
+use Rattle.text.specs.Reading.{Text, Out, done, bad, deep, next, pick, peek}
+use Rattle.text.specs.Strings.{before}
 
 -- so far the same, and the bytes stand in t from k on
 unfoldable pub startsFrom : Bool → Text → Text → ℕ → Bool
@@ -21,3 +23,8 @@ unfoldable pub endsFrom : Out Text → Text → ℕ → ℕ
 endsFrom (done u j) t k = reach u t k
 endsFrom (bad p) t k = length t + 1
 endsFrom (deep p) t k = length t + 1
+
+-- a code point that is compared with t from k on brings it to r: the text after it ends where it would with the code point before it
+pub record Went (t : Text) (k v r : ℕ) : Type 0 where
+  pub within : r ≤ length t + 1
+  pub on : (o : Out Text) → endsFrom (next o (before v)) t k ≡ endsFrom o t r

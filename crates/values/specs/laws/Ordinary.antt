@@ -8,7 +8,7 @@ use native.Mathlib.Omega.{arith}
 use native.Mathlib.Decide.{decLt}
 use lib.ListN.{length, getD}
 use lib.Dec.{leb, ltb, eqb}
-use borrow.Author.Tests.{le-leb, lt-leb, leb-true, ltb-true, lt-ltb, eq-eqb}
+use borrow.Author.Tests.{le-leb, lt-leb, leb-true, ltb-true, lt-ltb, eq-eqb, eqb-true}
 use Rattle.text.specs.Reading.{Text, done, pick, peek}
 use Rattle.text.specs.Class.{classOf}
 use Rattle.text.specs.Strings.{character, utf8}
@@ -16,7 +16,6 @@ use Rattle.text.specs.laws.ClassTable.{plains, plain-bytes}
 use Rattle.text.specs.laws.Plain.{own}
 use Rattle.text.specs.laws.Peek.{peek-in, peek-at}
 use Rattle.text.specs.laws.Strings.{character-plain}
-use Rattle.values.specs.laws.Compared.{startsFrom}
 
 -- 32 to 127, and no backslash. Of these the quote alone is no character
 pub record Ordinary (b : ℕ) : Type 0 where
@@ -84,10 +83,6 @@ itself b o = let h : b < 128 = omega (arith, o .high) in rw (lt-ltb b 128 h)
 pub width-one : (b : ℕ) → Ordinary b → 1 ≡ length (utf8 b)
 width-one b o = rw (itself b o)
 
-pub starts-itself : (t : Text) (k b : ℕ) → Ordinary b → eqb b (peek t k) ≡ startsFrom true (utf8 b) t k
-unfolding startsFrom
-starts-itself t k b o = rw (itself b o)
-
 -- by the three tests
 pub by-tests : (b : ℕ) → 32 ≤ b → b ≤ 127 → not (eqb b 92) ≡ true → Ordinary b
 by-tests b l h e = record { low = l; high = h; other = λ q. unlike (sym (ap not (eq-eqb b 92 q)) ∙ e) }
@@ -97,6 +92,21 @@ by-tests b l h e = record { low = l; high = h; other = λ q. unlike (sym (ap not
 
 pub untold : (b : ℕ) → false ≡ true → Ordinary b
 untold b f = let z : _≡_ {A = ℕ} 0 1 = cc in absurd (omega arith)
+
+-- what is none is no character by itself
+pub no-own : (b : ℕ) → (Ordinary b → ⊥) → own b ≡ false
+no-own b n = go (own b) refl
+  where
+    go : (x : Bool) → own b ≡ x → x ≡ false
+    go true e = absurd (n (plain-ordinary b e .0))
+    go false e = refl
+
+pub no-own-last : (b : ℕ) → not (eqb b 92) ≡ false → own b ≡ false
+no-own-last b e = go (eqb b 92) refl e
+  where
+    go : (x : Bool) → eqb b 92 ≡ x → not x ≡ false → own b ≡ false
+    go true q f = no-own b (λ o. o .other (eqb-true b 92 q))
+    go false q f = let z : _≡_ {A = ℕ} 0 1 = cc in absurd (omega arith)
 
 -- it stands within the text
 pub inside : (s : Text) (i : ℕ) {b : ℕ} → b ≡ peek s i → Ordinary b → i < length s

@@ -5,7 +5,7 @@ use mathlib.Core.Bool.{Bool, true}
 use mathlib.Core.List.{[], _∷_}
 use Prim.Native.Nat.{ℕ, suc, _+_, _-_, _≤_, _<_}
 use native.Mathlib.Omega.{arith}
-use native.Mathlib.Decide.{ℕ-discrete, decLt}
+use native.Mathlib.Decide.{ℕ-discrete}
 use native.Mathlib.Nat.{add-zero, not-suc-le-zero}
 use lib.ListN.{length, getD, take, drop, length-drop}
 use lib.Seq.{length-take-le, getD-take, getD-drop}
@@ -15,7 +15,7 @@ use Rattle.text.specs.Raw.{pastRaw}
 use Rattle.text.specs.laws.Peek.{peek-at}
 use Rattle.text.specs.laws.Runs.{part-same}
 use Rattle.text.specs.laws.Utf8.{part-none}
-use Rattle.text.specs.laws.Raw.{prefixed, next-none, raw-ge, raw-le, raw-past, raw-same, raw-reads}
+use Rattle.text.specs.laws.Raw.{prefixed, next-none, raw-ge, raw-le, raw-same}
 use Rattle.values.specs.Strings.{rest, bothText}
 use Rattle.values.specs.laws.Compared.{startsFrom}
 
@@ -28,17 +28,6 @@ part-length s i j h = length-take-le (j - i) (drop i s) (omega (arith, length-dr
 module _ (s : Text) (i : ℕ) {k : ℕ} (e : k ≡ pastRaw s i) where
   pub raw-from : i ≤ k
   raw-from = omega (arith, raw-ge s i)
-
-  pub raw-within : k - i ≤ length s - i
-  raw-within = go (decLt i (length s))
-    where
-      go : Dec (i < length s) → k - i ≤ length s - i
-      go (yes l) = omega (arith, raw-le s i (omega arith))
-      go (no n) = omega (arith, raw-past s i (omega arith))
-
-  pub rest-raw : rest s i ≡ next (rest s k) (prefixed (part s i k))
-  unfolding rest
-  rest-raw = raw-reads s i e
 
 -- ---- of two texts, or of one at two positions
 

@@ -1,7 +1,7 @@
 -- What is left of a string from a position on: a character at a time. Assumes nothing.
 use mathlib.Core.Path.{_≡_, sym, ap, _∙_}
 use mathlib.Core.List.{[]}
-use Prim.Native.Nat.{ℕ, suc, _+_}
+use Prim.Native.Nat.{ℕ, suc, _+_, _/_, _%_, _<_}
 use native.Mathlib.Omega.{arith}
 use lib.ListN.{length}
 use Rattle.text.specs.Reading.{Text, Out, done, bad, deep, next, peek}
@@ -44,6 +44,11 @@ code-no o {r} {p} e f = record { never = λ v j g. no (sym (ap codeOf g) ∙ sym
   where
     no : {v j : ℕ} → Of v j ≡ No p → ⊥
     no g = let z : _≡_ {A = ℕ} 0 1 = cc in omega arith
+
+-- r is the character at i as one number: its code point times 16, and how many bytes it has; 0 where there is none
+pub record Coded (s : Text) (i r : ℕ) : Type 0 where
+  pub some : 0 < r → character s i ≡ done (r / 16) (i + r % 16)
+  pub none : r ≡ 0 → Stops (character s i)
 
 -- a string is what is left past its quote
 pub string-is : (s : Text) (p : ℕ) → peek s p ≡ 34 → string s p ≡ rest s (p + 1)

@@ -1,0 +1,3 @@
+-- The paths of a manifest, each read once. In reading order.
+pub mod Listed
+pub mod laws

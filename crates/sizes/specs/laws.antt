@@ -1,0 +1,2 @@
+-- How 10 comes apart into paths and all else.
+pub mod Told
