@@ -7,7 +7,7 @@ ghost use Rattle.manifest.specs.Rules.{applies, first, not-declared, no-integer
 ghost use Rattle.manifest.specs.Rules.{refusal-19-file-names-no-entry, refusal-20-no-machine-of-a-split-file, refusal-21-machine-not-declared};
 ghost use Rattle.manifest.specs.Rules.{refusal-22-offset-not-an-integer, refusal-23-offset-out-of-range, refusal-24-clock-related-to-itself};
 ghost use Rattle.index.specs.Index.{textAt, textCell, offsetCell, entryAt, manifestOf};
-ghost use Rattle.named.specs.Prints.{pathPrints};
+ghost use Rattle.prints.specs.Prints.{pathPrints};
 ghost use Rattle.finds.specs.Finds.{citesOf, traceCited};
 ghost use Rattle.sizes.specs.Sizes.{broken-paths};
 ghost use Rattle.once.specs.Once.{path-twice};

@@ -21,7 +21,7 @@ use Rattle.sheet.specs.declared.Table.{Table}
 use Rattle.sheet.specs.declared.Sheet.{Sheet}
 use Rattle.sheet.specs.declared.Sheet.the-variants.{Refused, Listed}
 use Rattle.index.specs.Index.{colOf, rows, listed, textCell, entriesIn}
-use Rattle.named.specs.Prints.{printFrom}
+use Rattle.prints.specs.Prints.{printOf}
 use Rattle.named.specs.Named.{countIn}
 use Rattle.meant.specs.declared.Owned.{Owned}
 use Rattle.meant.specs.declared.Owned.the-variants.{Nobody, Whole, Split}
@@ -53,11 +53,11 @@ ownedCode Split p = partCode p
 unfoldable pub flag : Bool → ℕ
 flag c = pick c 1 0
 
--- ---- the entry of a path, by the table of lookups: law `entry-listed` says it of the manifest's
+-- ---- the entry of a path, by the table of lookups: theorem `entry-is` says it of the manifest's
 
 -- entry i has the path: its print in the table is the path's, and its text is
 unfoldable pub isListed : Text → List ℕ → List ℕ → Text → ℕ → Bool
-isListed s ix lookups path i = eqb (getD lookups (96 + i) 0) (printFrom 0 path) && holds (same path) (textCell s (colOf ix i 0))
+isListed s ix lookups path i = eqb (getD lookups (96 + i) 0) (printOf path) && holds (same path) (textCell s (colOf ix i 0))
 
 -- the first entry that has it; 32 if none has
 unfoldable pub entryWith : Text → List ℕ → List ℕ → Text → ℕ

@@ -19,8 +19,8 @@ use Rattle.sheet.specs.Twice.{again}
 use Rattle.sheet.specs.Accepted.{Accepted, accepted, source-of}
 use Rattle.sheet.specs.declared.Table.{Table}
 use Rattle.sheet.specs.declared.Sheet.the-variants.{Listed}
-use Rattle.index.specs.Index.{listed}
-use Rattle.finds.specs.Finds.{lookups}
+use Rattle.index.specs.Index.{listed, manifestOf}
+use Rattle.finds.specs.Finds.{entryOf, lookups}
 use Rattle.meant.specs.Meant.{baseOf, ownedOf, partOf, linkOf}
 use Rattle.meant.specs.Told.{Tells}
 use Rattle.merged.specs.Facts.{Filed, filed, no-file, noSource, partsOf, said, tieBy, givenBy, fileFact, fileFacts, sourceFact, factsOf}
@@ -29,7 +29,7 @@ use Rattle.merged.specs.Merged.{once, recordsOf}
 use Rattle.merged.specs.laws.Sheets.{told, read-told}
 use Rattle.merged.specs.laws.Lists.{length-map}
 use Rattle.checks.specs.Table.{fileNumber, sourceNumber, tieOf, givenOf, isSet, fileBy, sourceBy, filesIn, sourcesHeld, factsBy}
-use Rattle.gather.specs.Gathered.{ownedCode, entryFor, fileRow, sourceRow, gatheredIn, gatheredBy, gathered}
+use Rattle.gather.specs.Gathered.{ownedCode, entryWith, entryFor, fileRow, sourceRow, gatheredIn, gatheredBy, gathered}
 use Rattle.gather.specs.laws.Listings.{entry-listed}
 use Rattle.gather.specs.laws.Near.{source-below}
 use Rattle.gather.specs.laws.Codes.{givenIn, tie-right, given-right, flag-right}
@@ -145,6 +145,10 @@ sheet-is b rs e = go (sizeWrong b) (sheetOf b) e
 
 same-records : {qs rs : List Record} → records qs ≡ records rs → qs ≡ rs
 same-records e = cc
+
+-- by the manifest's table the entry of a path is the one that the rules find: its print decides nothing that its text would not
+pub entry-is : (s : Text) (ix : List ℕ) (path : Text) → entryWith s ix (lookups s ix) path ≡ entryOf (manifestOf s ix) path
+entry-is s ix path = entry-listed s ix path
 
 -- THE TABLE IS THE FACTS
 pub facts-are : (s : Text) (ix b : List ℕ) (w : Meaning) (rs : List Record) → Tells s ix w → recordsOf b ≡ records rs

@@ -2,7 +2,7 @@
 ghost use mathlib.Core.Path.{_≡_};
 ghost use mathlib.Core.List.{[], _∷_};
 ghost use Prim.Native.Nat.{_+_, _*_, _<_, _≤_};
-ghost use lib.ListN.{length};
+ghost use lib.ListN.{length, take};
 ghost use Rattle.records.specs.Layout.{bytesAt};
 ghost use Rattle.records.specs.Readers.{pathAt, sourceAt, snapshotAt};
 ghost use Rattle.sheet.specs.Places.{placeOf};
@@ -66,21 +66,43 @@ fn put_word(b: &[u8], at: usize, path: &mut [u8; 256], i: usize)
     path[i + 7] = (v % 256) as u8;
 }
 
-// A path stands at a position, and it is the given one.
+// A path stands at a position, and it is the given one: its string is unescaped once, and the bytes are compared.
 fn is_path(s: &[u8], at: usize, path: &[u8]) -> bool
+    requires { ⌜ length (now path) ≤ 256 ⌝ }
     ensures { λ r. ⌜ r ≡ holds (same (now (path .entry))) (textCell (now (s .entry)) at) ⌝ }
 {
     if at == 0 {
         return false;
     }
-    index::text_is(s, at, path)
+    let mut text: [u8; 256] = [0; 256];
+    let n = prints::unescape(s, at, &mut text);
+    if n != path.len() {
+        return false;
+    }
+    starts_with(&text, path)
+}
+
+// A text begins with the bytes of a path.
+fn starts_with(text: &[u8; 256], path: &[u8]) -> bool
+    requires { ⌜ (length (now text) ≡ 256) × (length (now path) ≤ 256) ⌝ }
+    ensures { λ r. ⌜ r ≡ same (now (path .entry)) (take (length (now (path .entry))) (now (text .entry))) ⌝ }
+{
+    let mut i: usize = 0;
+    while i < path.len() {
+        if text[i] != path[i] {
+            return false;
+        }
+        i += 1;
+    }
+    true
 }
 
 // Which entry has this path; 32 if none has. Only a path that has its print is compared with it.
 fn listing(s: &[u8], ix: &[usize; 2470], lookups: &[usize; 129], path: &[u8]) -> usize
+    requires { ⌜ length (now path) ≤ 256 ⌝ }
     ensures { λ r. ⌜ r ≡ entryWith (now (s .entry)) (now (ix .entry)) (now (lookups .entry)) (now (path .entry)) ⌝ }
 {
-    let print = wide(named::print_of(path));
+    let print = wide(prints::print_of(path));
     let n = meant::count(ix);
     let mut i: usize = 0;
     while i < n {

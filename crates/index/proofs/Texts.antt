@@ -10,7 +10,7 @@ use borrow.Author.Tests.{eq-eqb, ne-eqb}
 use Rattle.text.specs.Reading.{Text, Out, done, bad, deep}
 use Rattle.text.specs.Strings.{string}
 use Rattle.json.specs.Tree.{same}
-use Rattle.values.specs.Strings.{lengthIn, lengthAt, isText, sameAs, bothText, sameTexts}
+use Rattle.values.specs.Strings.{lengthIn, lengthAt, isText, bothText, sameTexts}
 use Rattle.index.specs.Index.{textIn, textAt}
 
 length-in : (o : Out Text) → lengthIn o ≡ length (textIn o)
@@ -30,28 +30,11 @@ left-empty [] [] h = eq-eqb 0 0 refl
 left-empty [] (b ∷ u) h = ne-eqb (length (b ∷ u)) 0 (omega arith)
 left-empty (a ∷ t) u h = absurd (omega arith)
 
-right-empty : (t u : Text) → length u ≡ 0 → eqb (length t) 0 ≡ same t u
-unfolding same
-right-empty [] [] h = eq-eqb 0 0 refl
-right-empty (a ∷ t) [] h = ne-eqb (length (a ∷ t)) 0 (omega arith)
-right-empty t (b ∷ u) h = absurd (omega arith)
-
 -- neither is
-none-same : (t : Text) → (length t ≡ 0 → ⊥) → false ≡ same [] t
-unfolding same
-none-same [] h = absurd (h refl)
-none-same (a ∷ t) h = refl
-
 same-none : (t : Text) → (length t ≡ 0 → ⊥) → false ≡ same t []
 unfolding same
 same-none [] h = absurd (h refl)
 same-none (a ∷ t) h = refl
-
-text-in : (o : Out Text) (t : Text) → (length t ≡ 0 → ⊥) → isText o t ≡ same (textIn o) t
-unfolding isText textIn
-text-in (done u j) t h = refl
-text-in (bad p) t h = none-same t h
-text-in (deep p) t h = none-same t h
 
 both-in : (o q : Out Text) → (length (textIn q) ≡ 0 → ⊥) → bothText o q ≡ same (textIn q) (textIn o)
 unfolding bothText textIn isText
@@ -71,13 +54,6 @@ both-true (bad j) q h = absurd (false≢true h)
 both-true (deep j) q h = absurd (false≢true h)
 
 module _ (s : Text) (p : ℕ) where
-  pub is-empty : (t : Text) {n : ℕ} → length t ≡ 0 → n ≡ lengthAt s p → eqb n 0 ≡ same (textAt s p) t
-  is-empty t h e = ap (λ (m : ℕ). eqb m 0) (e ∙ length-is s p) ∙ right-empty (textAt s p) t h
-
-  pub is-text : (t : Text) → (length t ≡ 0 → ⊥) → sameAs s p t ≡ same (textAt s p) t
-  unfolding sameAs textAt
-  is-text t h = text-in (string s p) t h
-
   pub both-alike : (q : ℕ) {b : Bool} → b ≡ sameTexts s q p → b ≡ true → true ≡ same (textAt s p) (textAt s q)
   unfolding sameTexts textAt
   both-alike q e h = both-true (string s q) (string s p) (sym e ∙ h)

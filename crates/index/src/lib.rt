@@ -69,16 +69,6 @@ pub fn length_at(s: &[u8], p: usize) -> usize
     n
 }
 
-// The text at a position is t. An empty text is told by its length, since no string may stand there.
-pub fn text_is(s: &[u8], p: usize, t: &[u8]) -> bool
-    ensures { λ r. ⌜ r ≡ same (textAt (now (s .entry)) p) (now (t .entry)) ⌝ }
-{
-    if t.len() == 0 {
-        return values::length_at(s, p) == 0;
-    }
-    values::same_as(s, p, t)
-}
-
 // The texts at two positions are the same. Where `values` finds no two strings alike, both may still be empty.
 pub fn same_at(s: &[u8], p: usize, q: usize) -> bool
     ensures { λ r. ⌜ r ≡ same (textAt (now (s .entry)) p) (textAt (now (s .entry)) q) ⌝ }

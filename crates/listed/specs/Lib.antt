@@ -1,3 +1,2 @@
--- The paths of a manifest, each read once. In reading order.
-pub mod Listed
+-- The paths of a manifest, each read once: all that its function promises is defined in `finds`, `prints`, `sizes` and `once`.
 pub mod laws

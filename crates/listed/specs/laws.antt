@@ -1,6 +1,7 @@
 -- What the functions promise of each other, and the laws that their proofs use: of tests and entries in general, then one file for each of the promises.
 pub mod Rules
 pub mod Parts
+pub mod Slots
 pub mod Judged
 pub mod Sizes
 pub mod Cited

@@ -1,5 +1,4 @@
 -- The named machines. In reading order.
-pub mod Prints
 pub mod Named
 pub mod Theorems
 pub mod laws

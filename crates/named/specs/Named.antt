@@ -9,7 +9,7 @@ use Rattle.json.specs.Tree.{same}
 use Rattle.numbers.specs.declared.Machine.{Machine}
 use Rattle.manifest.specs.Rows.{firstOr, flat}
 use Rattle.index.specs.Index.{textAt, colOf, itemOf, entriesIn, itemsIn, listed}
-use Rattle.named.specs.Prints.{printAt}
+use Rattle.prints.specs.Prints.{printAt}
 
 -- a position, if it is one: 0 stands for no value
 unfoldable pub place : ℕ → List ℕ

@@ -1,18 +1,15 @@
 // The named machines: a table of where the name of each first stands in the text, and the number of a machine by its name.
 ghost use mathlib.Core.Path.{_≡_};
+ghost use mathlib.Core.Bool.{true};
 ghost use Prim.Native.Nat.{_≤_, _<_};
 ghost use lib.ListN.{length};
 ghost use Rattle.json.specs.Tree.{same};
-ghost use Rattle.text.specs.Reading.{peek, part};
-ghost use Rattle.text.specs.Strings.{utf8};
-ghost use Rattle.text.specs.laws.Plain.{own};
 ghost use Rattle.index.specs.Index.{textAt};
 ghost use Rattle.named.specs.Named.{place, declaredAt, nameTable, printTable, standsAt, countIn, isCalled, numberBy, numberAt};
-ghost use Rattle.named.specs.Prints.{step, printFrom, printAt};
+ghost use Rattle.prints.specs.Prints.{printAt};
 ghost use Rattle.named.specs.laws.Held.{Added};
 ghost use Rattle.named.specs.laws.Kept.{Printed, Place};
 ghost use Rattle.named.specs.laws.Filled.{machineAt};
-ghost use Rattle.named.specs.laws.Walks.{Stepped, Odd};
 
 // How many names the table holds so far, and at which place the next is looked for first: most entries name their machines in one order.
 struct Tally {
@@ -90,7 +87,7 @@ pub fn number_at(s: &[u8], table: &[usize; 129], p: usize) -> numbers::Machine
 fn number_by(s: &[u8], table: &[usize; 129], p: usize) -> u8
     ensures { λ r. ⌜ r ≡ numberBy (now (s .entry)) (now (table .entry)) p ⌝ }
 {
-    let print = print_at(s, p);
+    let print = prints::print_at(s, p);
     let wanted = wide(print);
     let held: &[usize] = table;
     let mut k: usize = 0;
@@ -165,50 +162,54 @@ fn add(s: &[u8], p: usize, names: &mut [usize; 32], prints: &mut [u32; 32], t: T
         return t;
     }
     let n = t.held;
-    if n < 32 {
-        let k = place_of(s, p, names, prints, n, t.next);
-        if k < n {
-            return Tally {
-                held: n,
-                next: k + 1,
-            };
-        }
-        names[n] = p;
-        prints[n] = print_at(s, p);
+    if 32 <= n {
+        return t;
+    }
+    if is_expected(s, p, names, n, t.next) {
         return Tally {
-            held: n + 1,
-            next: n + 1,
+            held: n,
+            next: t.next + 1,
         };
     }
-    t
+    let print = prints::print_at(s, p);
+    let k = place_by_print(s, p, names, prints, n, print);
+    if k < n {
+        return Tally {
+            held: n,
+            next: k + 1,
+        };
+    }
+    names[n] = p;
+    prints[n] = print;
+    Tally {
+        held: n + 1,
+        next: n + 1,
+    }
 }
 
-// At which place among the first n names the text at p stands; n if at none. Where it is expected is looked at first.
-fn place_of(
+// The text at p is the name at the place where it is expected, if that is one of the first n.
+fn is_expected(s: &[u8], p: usize, names: &[usize; 32], n: usize, expected: usize) -> bool
+    requires { ⌜ (length (now names) ≡ 32) × (n ≤ 32) ⌝ }
+    ensures { λ r. ⌜ (r ≡ true → (expected < n) × Place (now (s .entry)) p (now (names .entry)) n expected) ⌝ }
+{
+    if n <= expected {
+        return false;
+    }
+    values::same_texts(s, names[expected], p)
+}
+
+// At which place among the first n names the text at p stands, whose print is known; n if at none. Only texts with one print are compared.
+fn place_by_print(
     s: &[u8],
     p: usize,
     names: &[usize; 32],
     prints: &[u32; 32],
     n: usize,
-    expected: usize,
+    print: u32,
 ) -> usize
-    requires { ⌜ (length (now names) ≡ 32) × (n ≤ 32) × Printed (now s) (now names) (now prints) n ⌝ }
+    requires { ⌜ (length (now names) ≡ 32) × (n ≤ 32) × Printed (now s) (now names) (now prints) n × (print ≡ printAt (now s) p) ⌝ }
     ensures { λ r. ⌜ Place (now (s .entry)) p (now (names .entry)) n r ⌝ }
 {
-    if expected < n {
-        if values::same_texts(s, names[expected], p) {
-            return expected;
-        }
-    }
-    place_by_print(s, p, names, prints, n)
-}
-
-// The same by the prints of the names: only texts with one print are compared.
-fn place_by_print(s: &[u8], p: usize, names: &[usize; 32], prints: &[u32; 32], n: usize) -> usize
-    requires { ⌜ (length (now names) ≡ 32) × (n ≤ 32) × Printed (now s) (now names) (now prints) n ⌝ }
-    ensures { λ r. ⌜ Place (now (s .entry)) p (now (names .entry)) n r ⌝ }
-{
-    let print = print_at(s, p);
     let mut k: usize = 0;
     while k < n {
         if prints[k] == print {
@@ -230,172 +231,4 @@ fn same_by_print(s: &[u8], p: usize, q: usize, shared: u32) -> bool
         return true;
     }
     values::same_texts(s, q, p)
-}
-
-// ---- the print of a text: a number that equal texts share, and few others
-
-// A print with one byte more.
-fn with_byte(print: u32, b: u32) -> u32
-    requires { ⌜ b < 65536 ⌝ }
-    ensures { λ r. ⌜ r ≡ step print b ⌝ }
-{
-    print % 16777216 * 31 + b + 1
-}
-
-// A print with the bytes of a code point more.
-fn with_code(print: u32, v: u32) -> u32
-    ensures { λ r. ⌜ r ≡ printFrom print (utf8 v) ⌝ }
-{
-    if v < 128 {
-        return with_byte(print, v);
-    }
-    if v < 2048 {
-        return with_byte(with_byte(print, 192 + v / 64), 128 + v % 64);
-    }
-    if v < 65536 {
-        let one = with_byte(print, 224 + v / 4096);
-        return with_byte(with_byte(one, 128 + v / 64 % 64), 128 + v % 64);
-    }
-    let one = with_byte(print, 240 + v / 262144);
-    let two = with_byte(one, 128 + v / 4096 % 64);
-    with_byte(with_byte(two, 128 + v / 64 % 64), 128 + v % 64)
-}
-
-// A print with the bytes from a position up to an end more.
-fn print_bytes(s: &[u8], from: usize, end: usize, start: u32) -> u32
-    requires { ⌜ end ≤ length (now s) ⌝ }
-    ensures { λ r. ⌜ r ≡ printFrom start (part (now (s .entry)) from end) ⌝ }
-{
-    let mut print = start;
-    let mut i = from;
-    while i < end {
-        print = with_byte(print, s[i] as u32);
-        i += 1;
-    }
-    print
-}
-
-// The print of a text that is given by its bytes.
-pub fn print_of(t: &[u8]) -> u32
-    ensures { λ r. ⌜ r ≡ printFrom 0 (now (t .entry)) ⌝ }
-{
-    print_bytes(t, 0, t.len(), 0)
-}
-
-// ---- the length and the print of a text, in one walk
-
-// The length of a text, and its print.
-pub struct Measure {
-    pub length: usize,
-    pub print: u32,
-}
-
-// How far a walk over a string has come, and the length and the print of what it has passed.
-struct Walk {
-    at: usize,
-    length: usize,
-    print: u32,
-}
-
-// A plain byte stands at a position.
-fn plain_at(s: &[u8], at: usize) -> bool
-    ensures { λ r. ⌜ r ≡ own (peek (now (s .entry)) at) ⌝ }
-{
-    if at < s.len() {
-        text::plain(s[at])
-    } else {
-        false
-    }
-}
-
-// A walk with one character more; as it was where none stands, or a quote. Escapes of a letter and plain bytes are told first, since they cost least.
-fn walk_on(s: &[u8], w: Walk) -> Walk
-    requires { ⌜ (w .at ≤ length (now s)) × (w .length ≤ w .at) ⌝ }
-    ensures { λ r. ⌜ Stepped (now (s .entry)) (w .at) (w .length) (w .print) (r .at) (r .length) (r .print) ⌝ }
-{
-    let short = text::short(s, w.at);
-    if 0 < short {
-        let print = with_byte(w.print, short);
-        return Walk {
-            at: w.at + 2,
-            length: w.length + 1,
-            print,
-        };
-    }
-    if plain_at(s, w.at) {
-        let print = with_byte(w.print, text::byte(s, w.at));
-        return Walk {
-            at: w.at + 1,
-            length: w.length + 1,
-            print,
-        };
-    }
-    walk_odd(s, w)
-}
-
-// The same where no plain byte and no escape of a letter stands.
-fn walk_odd(s: &[u8], w: Walk) -> Walk
-    requires { ⌜ (w .at ≤ length (now s)) × (w .length ≤ w .at) × Odd (now s) (w .at) ⌝ }
-    ensures { λ r. ⌜ Stepped (now (s .entry)) (w .at) (w .length) (w .print) (r .at) (r .length) (r .print) ⌝ }
-{
-    let long = text::long(s, w.at);
-    if 0 < long {
-        let v = long / 16;
-        let print = with_code(w.print, v);
-        return Walk {
-            at: w.at + (long % 16) as usize,
-            length: w.length + values::width(v),
-            print,
-        };
-    }
-    let n = text::several(s, w.at);
-    let print = print_bytes(s, w.at, w.at + n, w.print);
-    Walk {
-        at: w.at + n,
-        length: w.length + n,
-        print,
-    }
-}
-
-// The length and the print of the text at p. The bytes that stand for themselves up to the first escape are taken in a row, the rest character by character.
-pub fn measure_at(s: &[u8], p: usize) -> Measure
-    ensures { λ r. ⌜ (r .length ≡ length (textAt (now (s .entry)) p)) × (r .print ≡ printAt (now (s .entry)) p) ⌝ }
-{
-    if text::byte(s, p) != 34 {
-        return Measure {
-            length: 0,
-            print: 0,
-        };
-    }
-    let first = text::past_raw(s, p + 1);
-    let print = print_bytes(s, p + 1, first, 0);
-    let mut w = Walk {
-        at: first,
-        length: first - p - 1,
-        print,
-    };
-    loop {
-        if text::byte(s, w.at) == 34 {
-            return Measure {
-                length: w.length,
-                print: w.print,
-            };
-        }
-        let r = walk_on(s, w);
-        if r.at == w.at {
-            return Measure {
-                length: 0,
-                print: 0,
-            };
-        }
-        w = r;
-    }
-}
-
-// The print of the text at p: 0 of an empty text alone.
-pub fn print_at(s: &[u8], p: usize) -> u32
-    ensures { λ r. ⌜ r ≡ printAt (now (s .entry)) p ⌝ }
-{
-    let m = measure_at(s, p);
-    m.print
 }

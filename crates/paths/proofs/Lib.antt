@@ -1,6 +1,7 @@
 pub mod Cell
 pub mod Rest
-pub mod Queue
+pub mod Picked
+pub mod Mask
+pub mod Levels
 pub mod Table
-pub mod Next
 pub mod Walk

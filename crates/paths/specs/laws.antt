@@ -8,5 +8,4 @@ pub mod Along
 pub mod Table
 pub mod Graph
 pub mod Traced
-pub mod Listed
-pub mod Queue
+pub mod Search

@@ -5,11 +5,9 @@ ghost use mathlib.Core.List.{_++_};
 ghost use Prim.Native.Nat.{ℕ, _+_, _*_, _≤_, _<_};
 ghost use lib.ListN.{length, getD, drop, replicate};
 ghost use Rattle.numbers.specs.Numbers.{clocks};
-ghost use Rattle.paths.specs.Paths.{next};
 ghost use Rattle.paths.specs.Matrix.{pairOf, isGraph, held, graphOf, distances, nexts, along, traced};
 ghost use Rattle.paths.specs.laws.Graph.{Whole};
-ghost use Rattle.paths.specs.laws.Listed.{Counts, Bare, Sources, Rising, Others};
-ghost use Rattle.paths.specs.laws.Queue.{State, Rest};
+ghost use Rattle.paths.specs.laws.Search.{Bare, First, None, Marked, Apart, Selves, Rest, State};
 
 // No path: more than any distance.
 const FAR: u16 = 65535;
@@ -62,6 +60,13 @@ fn larger(a: u8, b: u8) -> u8
     if a < b { b } else { a }
 }
 
+// The smaller of two bytes.
+fn smaller(a: u8, b: u8) -> u8
+    ensures { λ r. ⌜ (0 < a → 0 < b → 0 < r) ⌝ }
+{
+    if a < b { a } else { b }
+}
+
 // Whether a pair leads from clock c. All of its row is looked at, with no way out between, since that becomes a few instructions for 16
 // bytes together.
 fn has_pair(matrix: &[u8], n: usize, c: usize) -> bool
@@ -78,86 +83,142 @@ fn has_pair(matrix: &[u8], n: usize, c: usize) -> bool
     0 < most
 }
 
-// Whether c is the target or a pair leads from it.
-fn is_source(matrix: &[u8], n: usize, target: usize, c: usize) -> bool
-    requires { ⌜ (length (now matrix) ≡ n * n) × (n ≤ clocks) × (c < n) ⌝ }
-    ensures { λ r. ⌜ (r ≡ false → Counts (held (now (matrix .entry)) n target) c → ⊥) ⌝ }
+// Lists the clocks other than the target from which a pair leads, in rising order, and answers how many they are: most often a few, and no
+// other clock has a path or is on one.
+fn others(matrix: &[u8], n: usize, target: usize, out: &mut [u16; numbers::CLOCKS]) -> usize
+    requires { ⌜ Whole (now matrix) n target × (length (now out) ≡ clocks) ⌝ }
+    ensures { λ r. ⌜ (r < n) × (length (now (out .exit)) ≡ clocks) × Rest (held (now (matrix .entry)) n target) 1 (now (out .exit)) r n ⌝ }
 {
-    if c == target {
-        return true;
-    }
-    has_pair(matrix, n, c)
-}
-
-// Lists the target and the clocks from which a pair leads, in rising order, and answers how many they are: most often a few, and no other
-// clock has a path or is on one.
-fn list_sources(matrix: &[u8], n: usize, target: usize, out: &mut [u16]) -> usize
-    requires { ⌜ length (now out) ≡ clocks ⌝ }
-    ensures { λ r. ⌜ Sources (graphOf (now (matrix .entry)) n target) (now (out .exit)) r ⌝ }
-{
-    if !is_graph(matrix, n, target) {
-        return 0;
-    }
     let mut count: usize = 0;
     let mut c: usize = 0;
     while c < n {
         let e = c;
         c += 1;
-        if is_source(matrix, n, target, e) {
-            out[count] = e as u16;
-            count += 1;
+        if e != target {
+            if has_pair(matrix, n, e) {
+                out[count] = e as u16;
+                count += 1;
+            }
         }
     }
     count
 }
 
-// Copies the listed clocks other than the target to out, in their order, and answers how many they are.
-fn others(list: &[u16], count: usize, target: usize, out: &mut [u16; numbers::CLOCKS]) -> usize
-    requires { ⌜ (length (now list) ≡ clocks) × (length (now out) ≡ clocks) × (count ≤ clocks) × Rising (now list) count ⌝ }
-    ensures { λ r. ⌜ (length (now (out .exit)) ≡ clocks) × Others (now (list .entry)) count target (now (out .exit)) r ⌝ }
+// The first clock of the queue from one place to another to which a pair leads from e; the number of clocks where there is none. It looks
+// along e's row of the matrix, at no more than the clocks up to the one that it finds.
+fn nearer(
+    matrix: &[u8],
+    n: usize,
+    queue: &[u16; numbers::CLOCKS],
+    from: usize,
+    end: usize,
+    e: usize,
+) -> usize
+    requires { ⌜ (length (now matrix) ≡ n * n) × (n ≤ clocks) × (e < n) × (end ≤ clocks) ⌝ }
+    requires { ⌜ ((i : ℕ) → from ≤ i → i < end → getD (now queue) i 0 < n) ⌝ }
+    ensures found { λ r. ⌜ (r < clocks → First (pairOf (now (matrix .entry)) n e) (now (queue .entry)) from end r) ⌝ }
+    ensures none { λ r. ⌜ (clocks ≤ r → None (pairOf (now (matrix .entry)) n e) (now (queue .entry)) from end) ⌝ }
 {
-    let mut copied: usize = 0;
-    let mut d: usize = 0;
-    while d < count {
-        let e = list[d] as usize;
-        d += 1;
-        if e != target {
-            out[copied] = e as u16;
-            copied += 1;
+    let mut i = from;
+    while i < end {
+        let c = queue[i] as usize;
+        i += 1;
+        if pair(matrix, n, e, c) {
+            return c;
         }
     }
-    copied
+    numbers::CLOCKS
 }
 
-// Gives each clock of the rest from which a pair leads to the clock at the queue's head one more than that clock's distance, and puts it at the
-// queue's end. The others stay in the rest, moved together, so no clock that has a distance is looked at again. Only the contract speaks of the
-// target.
-fn expand(
+// For each clock a byte: 255 if it stands in the queue from one place to another, else 0. The contract says no more than that these clocks'
+// bytes are not 0.
+fn mask_of(queue: &[u16; numbers::CLOCKS], from: usize, end: usize) -> [u8; numbers::CLOCKS]
+    requires { ⌜ end ≤ clocks ⌝ }
+    requires { ⌜ ((i : ℕ) → from ≤ i → i < end → getD (now queue) i 0 < clocks) ⌝ }
+    ensures { λ r. ⌜ Marked r (now (queue .entry)) from end ⌝ }
+{
+    let mut mask = [0u8; numbers::CLOCKS];
+    let mut i = from;
+    while i < end {
+        let c = queue[i] as usize;
+        mask[c] = 255;
+        i += 1;
+    }
+    mask
+}
+
+// Whether a pair leads from clock e to one whose byte of the mask is not 0. All of its row is looked at, with no way out between, as in
+// `has_pair`.
+fn meets(matrix: &[u8], n: usize, e: usize, mask: &[u8; numbers::CLOCKS]) -> bool
+    requires { ⌜ (length (now matrix) ≡ n * n) × (n ≤ clocks) × (e < n) ⌝ }
+    ensures { λ r. ⌜ (r ≡ false → Apart (now (matrix .entry)) n e (now (mask .entry))) ⌝ }
+{
+    let row = e * n;
+    let mut most: u8 = 0;
+    let mut d: usize = 0;
+    while d < n {
+        most = larger(most, smaller(mask[d], matrix[row + d]));
+        d += 1;
+    }
+    0 < most
+}
+
+// The same as `nearer`, which is asked for a level of more than 12 clocks only where the level's mask says that there is such a clock.
+fn nearer_in(
+    matrix: &[u8],
+    n: usize,
+    queue: &[u16; numbers::CLOCKS],
+    from: usize,
+    end: usize,
+    e: usize,
+    mask: &[u8; numbers::CLOCKS],
+) -> usize
+    requires { ⌜ (length (now matrix) ≡ n * n) × (n ≤ clocks) × (e < n) × (end ≤ clocks) × (from ≤ end) ⌝ }
+    requires { ⌜ ((i : ℕ) → from ≤ i → i < end → getD (now queue) i 0 < n) ⌝ }
+    requires { ⌜ Marked (now mask) (now queue) from end ⌝ }
+    ensures found { λ r. ⌜ (r < clocks → First (pairOf (now (matrix .entry)) n e) (now (queue .entry)) from end r) ⌝ }
+    ensures none { λ r. ⌜ (clocks ≤ r → None (pairOf (now (matrix .entry)) n e) (now (queue .entry)) from end) ⌝ }
+{
+    if 12 < end - from {
+        if !meets(matrix, n, e, mask) {
+            return numbers::CLOCKS;
+        }
+    }
+    nearer(matrix, n, queue, from, end, e)
+}
+
+// Gives the distance k to each clock of the rest from which a pair leads to the level before, the clocks at one pair less, which are the last
+// of the queue. A level is in rising order, so the first of it to which a pair leads is the next clock. Each such clock is put at the queue's
+// end, so the new level is in rising order too. The others stay in the rest, moved together, so no clock that has a distance is looked at
+// again. Only the contract speaks of the target.
+fn level(
     matrix: &[u8],
     n: usize,
     target: usize,
     rest: &mut [u16; numbers::CLOCKS],
     left: usize,
     dist: &mut [u16; numbers::CLOCKS],
+    next: &mut [u16; numbers::CLOCKS],
     queue: &mut [u16; numbers::CLOCKS],
-    head: usize,
+    from: usize,
     end: usize,
+    k: u16,
 ) -> Ends
-    requires { ⌜ Whole (now matrix) n target × Rest (held (now matrix) n target) clocks (now dist) (now rest) left ⌝ }
-    requires { ⌜ (head < end) × State (held (now matrix) n target) clocks (now dist) (now queue) head end ⌝ }
-    ensures state { λ r. ⌜ State (held (now (matrix .entry)) n target) clocks (now (dist .exit)) (now (queue .exit)) (head + 1) (r .tail) ⌝ }
-    ensures rest { λ r. ⌜ Rest (held (now (matrix .entry)) n target) clocks (now (dist .exit)) (now (rest .exit)) (r .left) ⌝ }
+    requires { ⌜ Whole (now matrix) n target × (from < end) ⌝ }
+    requires { ⌜ State (held (now matrix) n target) clocks (now dist) (now next) (now rest) left (now queue) from end k ⌝ }
+    ensures { λ r. ⌜ State (held (now (matrix .entry)) n target) clocks (now (dist .exit)) (now (next .exit)) (now (rest .exit)) (r .left) (now (queue .exit)) end (r .tail) (k + 1) ⌝ }
 {
-    let c = queue[head] as usize;
-    let k = dist[c] + 1;
+    let mask = mask_of(queue, from, end);
     let mut tail = end;
     let mut kept: usize = 0;
     let mut d: usize = 0;
     while d < left {
         let e = rest[d] as usize;
         d += 1;
-        if pair(matrix, n, e, c) {
+        let c = nearer_in(matrix, n, queue, from, end, e, &mask);
+        if c < numbers::CLOCKS {
             dist[e] = k;
+            next[e] = c as u16;
             queue[tail] = e as u16;
             tail += 1;
         } else {
@@ -168,97 +229,55 @@ fn expand(
     Ends { tail, left: kept }
 }
 
-// The distance of each clock, breadth first from the target. The queue holds the clocks that have a distance, in the order in which
-// they got it, and the rest the listed clocks that have none; each turn looks from which of these a pair leads to the clock at the queue's head.
-fn distances(
-    matrix: &[u8],
-    n: usize,
-    target: usize,
-    list: &[u16],
-    count: usize,
-) -> [u16; numbers::CLOCKS]
-    requires { ⌜ Sources (graphOf (now matrix) n target) (now list) count × (length (now list) ≡ clocks) ⌝ }
-    ensures { λ r. ⌜ r ≡ distances (graphOf (now (matrix .entry)) n target) ⌝ }
+// Names each clock as its own next one.
+fn name_selves(next: &mut [u16; numbers::CLOCKS])
+    requires { ⌜ length (now next) ≡ clocks ⌝ }
+    ensures { λ _. ⌜ Selves clocks (now (next .exit)) ⌝ }
+{
+    let mut c: usize = 0;
+    while c < numbers::CLOCKS {
+        next[c] = c as u16;
+        c += 1;
+    }
+}
+
+// The distance and the next clock of each clock, level by level from the target, until a level is empty. The target and a clock without a path
+// name themselves. Where the matrix is no graph with that target, no clock has a path.
+pub fn search(matrix: &[u8], n: usize, target: usize) -> Found
+    ensures { λ r. ⌜ (r .dist ≡ distances (graphOf (now (matrix .entry)) n target)) × (r .next ≡ nexts (graphOf (now (matrix .entry)) n target)) ⌝ }
 {
     let mut dist = [FAR; numbers::CLOCKS];
+    let mut next = [0u16; numbers::CLOCKS];
+    name_selves(&mut next);
     if !is_graph(matrix, n, target) {
-        return dist;
+        return Found { dist, next };
     }
     let mut queue = [0u16; numbers::CLOCKS];
     let mut rest = [0u16; numbers::CLOCKS];
-    let mut left = others(list, count, target, &mut rest);
+    let mut left = others(matrix, n, target, &mut rest);
     dist[target] = 0;
     queue[0] = target as u16;
-    let mut head: usize = 0;
-    let mut tail: usize = 1;
-    while head < tail {
-        let ends = expand(
+    let mut from: usize = 0;
+    let mut end: usize = 1;
+    let mut k: u16 = 1;
+    while from < end {
+        let ends = level(
             matrix,
             n,
             target,
             &mut rest,
             left,
             &mut dist,
+            &mut next,
             &mut queue,
-            head,
-            tail,
+            from,
+            end,
+            k,
         );
-        tail = ends.tail;
+        from = end;
+        end = ends.tail;
         left = ends.left;
-        head += 1;
-    }
-    dist
-}
-
-// The clock after c on its best path: the smallest neighbour that is one pair nearer, which is listed since it has a path. The target and a
-// clock without a path name themselves.
-fn next_from(
-    matrix: &[u8],
-    n: usize,
-    target: usize,
-    list: &[u16],
-    count: usize,
-    dist: &[u16; numbers::CLOCKS],
-    c: usize,
-) -> usize
-    requires { ⌜ Sources (graphOf (now matrix) n target) (now list) count × (length (now list) ≡ clocks) ⌝ }
-    requires { ⌜ now dist ≡ distances (graphOf (now matrix) n target) ⌝ }
-    requires { ⌜ c < clocks ⌝ }
-    ensures { λ r. ⌜ r ≡ next (graphOf (now (matrix .entry)) n target) c ⌝ }
-{
-    let k = dist[c];
-    if c == target {
-        return c;
-    }
-    if k == FAR {
-        return c;
-    }
-    let mut d: usize = 0;
-    while d < count {
-        let e = list[d] as usize;
-        d += 1;
-        if dist[e] == k - 1 {
-            if pair(matrix, n, c, e) {
-                return e;
-            }
-        }
-    }
-    c
-}
-
-// The distance and the next clock of each clock. Where the matrix is no graph with that target, no clock has a path.
-pub fn search(matrix: &[u8], n: usize, target: usize) -> Found
-    ensures { λ r. ⌜ (r .dist ≡ distances (graphOf (now (matrix .entry)) n target)) × (r .next ≡ nexts (graphOf (now (matrix .entry)) n target)) ⌝ }
-{
-    let mut list = [0u16; numbers::CLOCKS];
-    let count = list_sources(matrix, n, target, &mut list);
-    let dist = distances(matrix, n, target, &list, count);
-    let mut next = [0u16; numbers::CLOCKS];
-    let mut c: usize = 0;
-    while c < numbers::CLOCKS {
-        let d = next_from(matrix, n, target, &list, count, &dist, c);
-        next[c] = d as u16;
-        c += 1;
+        k += 1;
     }
     Found { dist, next }
 }

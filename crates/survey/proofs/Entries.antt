@@ -10,7 +10,6 @@ use lib.Dec.{eqb, ltb}
 use lib.ListN.{length, getD, set, replicate}
 use borrow.Author.Tests.{eq-eqb, ne-eqb}
 use Rattle.text.specs.Reading.{Text, pick, scan}
-use Rattle.text.specs.declared.Scan.{Scan}
 use Rattle.text.specs.declared.Scan.the-variants.{Done}
 use Rattle.text.specs.Class.{skip}
 use Rattle.text.specs.Strings.{string}
@@ -47,12 +46,12 @@ unfolding wantedOf pick
 wants-clocks = refl
 
 -- `sync_to` in `clocks`
-module _ (s : Text) (i : ℕ) {r : Scan} (er : r ≡ scan (name s i)) {j : ℕ} (re : r ≡ Done j) {line : ℕ} (lo : Gives (λ k n. LineOf 4 k line) (string s i)) {v : ℕ} (ev : v ≡ skip s j) {old new : List ℕ} {e : ℕ} where
+module _ (s : Text) (i : ℕ) {j : ℕ} (en : scan (name s i) ≡ Done j) {line : ℕ} (lo : Gives (λ k n. LineOf 4 k line) (string s i)) {v : ℕ} (ev : v ≡ skip s j) {old new : List ℕ} {e : ℕ} where
   pub sync-entered : line ≡ 5 → Kept 3 10 s v e new → Entered 4 11 s i line v e × Puts (RowAt 3 10 s) 5 line v old new
-  sync-entered h m = (entered 4 11 s i er re lo ev refl (object-fits line-5 h (leaf-sync .wants) (m .row) (m .ends)), puts-this (RowAt 3 10 s) h (m .row))
+  sync-entered h m = (entered 4 11 s i en lo ev refl (object-fits line-5 h (leaf-sync .wants) (m .row) (m .ends)), puts-this (RowAt 3 10 s) h (m .row))
 
   pub other-entered : (line ≡ 5 → ⊥) → {k : ℕ} → k ≡ valueKind line → Fits k 11 s v e → new ≡ old → Entered 4 11 s i line v e × Puts (RowAt 3 10 s) 5 line v old new
-  other-entered n ek f q = (entered 4 11 s i er re lo ev ek f, puts-none (RowAt 3 10 s) n q)
+  other-entered n ek f q = (entered 4 11 s i en lo ev ek f, puts-none (RowAt 3 10 s) n q)
 
 -- `clocks`, if nothing was kept of `sync_to` before
 pub clocks-told : (s : Text) (p : ℕ) {own sync : List ℕ} → Row 4 11 s p own × Holds (RowAt 3 10 s) (getD own 3 0) (replicate 5 0) sync → Clocks s p (getD own 0 0) (clockNumbers own sync)

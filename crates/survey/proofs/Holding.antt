@@ -9,7 +9,6 @@ use lib.ListN.{length, getD, set}
 use lib.Seq.{getD-set-other}
 use borrow.Author.Tests.{lt-ltb}
 use Rattle.text.specs.Reading.{Text, done, scan}
-use Rattle.text.specs.declared.Scan.{Scan}
 use Rattle.text.specs.declared.Scan.the-variants.{Done}
 use Rattle.text.specs.Class.{skip}
 use Rattle.text.specs.laws.Peek.{skip-ge}
@@ -30,9 +29,9 @@ use Rattle.survey.proofs.Known.{Known}
 -- ---- its value
 
 -- no value of a member stands at 0
-pub value-past : (s : Text) (i : ℕ) {r : Scan} → r ≡ scan (name s i) → {j : ℕ} → r ≡ Done j → {v : ℕ} → v ≡ skip s j → v ≡ 0 → ⊥
-value-past s i er {j} re ev z =
-    let w = scan-done (name s i) (sym er ∙ re) in
+pub value-past : (s : Text) (i : ℕ) {j : ℕ} → scan (name s i) ≡ Done j → {v : ℕ} → v ≡ skip s j → v ≡ 0 → ⊥
+value-past s i {j} en ev z =
+    let w = scan-done (name s i) en in
     let a : i < j = past-strict (name-past s i) (w .1) in
     omega (arith, skip-ge s j)
 

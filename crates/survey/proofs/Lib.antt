@@ -1,4 +1,5 @@
 -- Laws that only the proofs of this crate's functions use.
+pub mod Ends
 pub mod Going
 pub mod Stepping
 pub mod Walking

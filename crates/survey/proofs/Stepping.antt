@@ -6,7 +6,7 @@ use mathlib.Core.Logic.{_⊎_, inl, inr}
 use Prim.Native.Nat.{ℕ, suc, _+_, _-_, _≤_, _<_}
 use native.Mathlib.Decide.{ℕ-discrete}
 use native.Mathlib.Omega.{arith}
-use lib.Dec.{ltb, leb}
+use lib.Dec.{leb}
 use lib.ListN.{getD, set}
 use borrow.Author.Tests.{eq-eqb, leb-true, not-false}
 use Rattle.text.specs.Reading.{Text, done, pick, peek, scan}
@@ -71,9 +71,9 @@ text-typed : (u : Text) → tag (str u) ≡ wantedOf 0
 unfolding tag wantedOf pick
 text-typed u = refl
 
-pub text-fits : (s : Text) (p l : ℕ) {r : Scan} → r ≡ scan (string s p) → {j : ℕ} → r ≡ Done j → Fits 0 l s p j
-text-fits s p l er {j} re =
-    let w = scan-done (string s p) (sym er ∙ re) in
+pub text-fits : (s : Text) (p l : ℕ) {j : ℕ} → scan (string s p) ≡ Done j → Fits 0 l s p j
+text-fits s p l e =
+    let w = scan-done (string s p) e in
     let quote : peek s p ≡ 34 = quote-first s p (w .1) in
     record {
       tree = str (w .0);
@@ -86,19 +86,18 @@ fits-same {l = l} {s = s} {p = p} {e = e} q f = subst (λ (x : ℕ). Fits x l s 
 
 -- ---- a member
 
-module _ (o l : ℕ) (s : Text) (i : ℕ) {r : Scan} (er : r ≡ scan (name s i)) {j : ℕ} (re : r ≡ Done j) where
-  pub entered : {line : ℕ} → Gives (λ k n. LineOf o k line) (string s i) → {v : ℕ} → v ≡ skip s j → {k : ℕ} → k ≡ valueKind line → {e : ℕ} → Fits k l s v e → Entered o l s i line v e
-  entered {line} g {v} ev {k} ek {e} f =
-      let w = scan-done (name s i) (sym er ∙ re) in
-      let u = name-string s i (w .1) in
-      record {
-        key = w .0;
-        colon = j;
-        named = w .1;
-        place = ev;
-        about = g .holds (w .0) (u .0) (u .1);
-        fits = subst (λ (x : ℕ). Fits x l s v e) ek f;
-      }
+pub entered : (o l : ℕ) (s : Text) (i : ℕ) {j : ℕ} → scan (name s i) ≡ Done j → {line : ℕ} → Gives (λ k n. LineOf o k line) (string s i) → {v : ℕ} → v ≡ skip s j → {k : ℕ} → k ≡ valueKind line → {e : ℕ} → Fits k l s v e → Entered o l s i line v e
+entered o l s i {j} en {line} g {v} ev {k} ek {e} f =
+    let w = scan-done (name s i) en in
+    let u = name-string s i (w .1) in
+    record {
+      key = w .0;
+      colon = j;
+      named = w .1;
+      place = ev;
+      about = g .holds (w .0) (u .0) (u .1);
+      fits = subst (λ (x : ℕ). Fits x l s v e) ek f;
+    }
 
 -- ---- the columns of a row
 

@@ -198,9 +198,9 @@ all-clear s {v = v} short begins reads root versions members few {ix} e =
     go false h = pick-false _ _ refl ∙ h
 
 -- as the walk finds it: a is the first byte's place and c that byte, i the name's place, and the manifest object stands at v
-pub walked-clear : (s : Text) → length s ≤ most-bytes → {b : Bool} → b ≡ starts s → b ≡ true → {a : ℕ} → a ≡ skip s 0 → {c : ℕ} → c ≡ peek s a → c ≡ 123 → {i : ℕ} → i ≡ skip s (a + 1) → {r : Scan} → r ≡ scan (name s i) → {j : ℕ} → r ≡ Done j → {v : ℕ} → v ≡ skip s j → {e : ℕ} {old ix : List ℕ} → Manifest s v e old ix → old ≡ zeros → Closes s e → Clear s ix
-walked-clear s short eb tb {a} ea ec tc {i} ei er {j} re ev m z closed =
-    let w = scan-done (name s i) (sym er ∙ re) in
+pub walked-clear : (s : Text) → length s ≤ most-bytes → {b : Bool} → b ≡ starts s → b ≡ true → {a : ℕ} → a ≡ skip s 0 → {c : ℕ} → c ≡ peek s a → c ≡ 123 → {i : ℕ} → i ≡ skip s (a + 1) → {j : ℕ} → scan (name s i) ≡ Done j → {v : ℕ} → v ≡ skip s j → {e : ℕ} {old ix : List ℕ} → Manifest s v e old ix → old ≡ zeros → Closes s e → Clear s ix
+walked-clear s short eb tb {a} ea ec tc {i} ei {j} en ev m z closed =
+    let w = scan-done (name s i) en in
     let at-name : i ≡ skip s (skip s 0 + 1) = ei ∙ ap (λ (x : ℕ). skip s (x + 1)) ea in
     let named : name s (skip s (skip s 0 + 1)) ≡ done (w .0) j = ap (name s) (sym at-name) ∙ w .1 in
     let begins : peek s (skip s 0) ≡ 123 = ap (peek s) (sym ea) ∙ sym ec ∙ tc in

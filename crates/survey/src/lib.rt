@@ -4,7 +4,9 @@ ghost use mathlib.Core.Bool.{true, false};
 ghost use Prim.Native.Nat.{ℕ, _+_, _<_, _≤_};
 ghost use lib.ListN.{length, getD, replicate};
 ghost use Rattle.text.specs.Reading.{scan};
-ghost use Rattle.json.specs.Document.{value as valueOf};
+ghost use Rattle.text.specs.Strings.{string as stringOf};
+ghost use Rattle.text.specs.declared.Scan.the-variants.{Done};
+ghost use Rattle.json.specs.Document.{name as nameOf, value as valueOf};
 ghost use Rattle.table.specs.Table.{lineAt, valueKind};
 ghost use Rattle.outline.specs.Outline.{not-1-at};
 ghost use Rattle.index.specs.Index.{indexOf};
@@ -63,15 +65,56 @@ fn any(s: &[u8], at: usize, levels: u8) -> usize
     }
 }
 
-// The string at a position ends here; 0 if none stands there.
-fn text_end(s: &[u8], at: usize) -> usize
-    ensures { λ r. ⌜ ((r ≡ 0 → ⊥) → (l : ℕ) → Fits 0 l (now (s .entry)) at r) ⌝ }
+// The string at a position ends here, if it has fewer than 16 characters and all are plain bytes; else 0. By a loop of its own, which costs such a string less than
+// the blocks that longer ones are read by.
+fn plain_end(s: &[u8], at: usize) -> usize
+    ensures { λ r. ⌜ ((r ≡ 0 → ⊥) → scan (stringOf (now (s .entry)) at) ≡ Done r) ⌝ }
 {
+    if text::byte(s, at) != 34 {
+        return 0;
+    }
+    let mut i = at + 1;
+    let mut left: u8 = 16;
+    while 0 < left {
+        let b = text::byte(s, i);
+        if b == 34 {
+            return i + 1;
+        }
+        if b < 32 {
+            return 0;
+        }
+        if 127 < b {
+            return 0;
+        }
+        if b == 92 {
+            return 0;
+        }
+        i += 1;
+        left -= 1;
+    }
+    0
+}
+
+// The string at a position ends here; 0 if none stands there. Most are short and of plain bytes, so that is tried first.
+fn string_end(s: &[u8], at: usize) -> usize
+    ensures { λ r. ⌜ ((r ≡ 0 → ⊥) → scan (stringOf (now (s .entry)) at) ≡ Done r) ⌝ }
+{
+    let end = plain_end(s, at);
+    if 0 < end {
+        return end;
+    }
     match text::string(s, at) {
         text::Scan::Done(j) => j,
         text::Scan::Bad(_) => 0,
         text::Scan::Deep(_) => 0,
     }
+}
+
+// The same, said of the string as a value, whatever the number of levels.
+fn text_end(s: &[u8], at: usize) -> usize
+    ensures { λ r. ⌜ ((r ≡ 0 → ⊥) → (l : ℕ) → Fits 0 l (now (s .entry)) at r) ⌝ }
+{
+    string_end(s, at)
 }
 
 // The same for each kind. Most values are texts, for which the string alone is read.
@@ -88,32 +131,42 @@ fn passed(s: &[u8], at: usize, kind: u8, levels: u8) -> usize
     typed(s, at, kind, levels)
 }
 
+// Past the member's name at a position and its colon; 0 if they do not stand there.
+fn name_end(s: &[u8], at: usize) -> usize
+    ensures { λ r. ⌜ ((r ≡ 0 → ⊥) → scan (nameOf (now (s .entry)) at) ≡ Done r) ⌝ }
+{
+    let end = string_end(s, at);
+    if end == 0 {
+        return 0;
+    }
+    let colon = text::blank(s, end);
+    if text::byte(s, colon) == 58 {
+        colon + 1
+    } else {
+        0
+    }
+}
+
 // A member of an object of a kind, from its name on.
 fn member(s: &[u8], at: usize, object: u8, levels: u8) -> Step
     requires { ⌜ (object < 12) × (levels ≤ 15) ⌝ }
     ensures { λ r. ⌜ ((r .end ≡ 0 → ⊥) → Entered object levels (now (s .entry)) at (r .line) (r .at) (r .end)) ⌝ }
 {
-    match json::name(s, at) {
-        text::Scan::Done(j) => {
-            let line = table::line_of(s, at, object);
-            let v = text::blank(s, j);
-            let end = passed(s, v, table::value_kind(line), levels);
-            Step {
-                line: line,
-                at: v,
-                end: end,
-            }
-        }
-        text::Scan::Bad(_) => Step {
+    let j = name_end(s, at);
+    if j == 0 {
+        return Step {
             line: 20,
             at: 0,
             end: 0,
-        },
-        text::Scan::Deep(_) => Step {
-            line: 20,
-            at: 0,
-            end: 0,
-        },
+        };
+    }
+    let line = table::line_of(s, at, object);
+    let v = text::blank(s, j);
+    let end = passed(s, v, table::value_kind(line), levels);
+    Step {
+        line: line,
+        at: v,
+        end: end,
     }
 }
 
@@ -208,31 +261,25 @@ fn kept(s: &[u8], at: usize, object: u8, levels: u8, into: &mut [usize; 5]) -> u
 fn clocks_member(s: &[u8], at: usize, sync: &mut [usize; 5]) -> Step
     ensures { λ r. ⌜ ((r .end ≡ 0 → ⊥) → Entered 4 11 (now (s .entry)) at (r .line) (r .at) (r .end) × Puts (RowAt 3 10 (now (s .entry))) 5 (r .line) (r .at) (now (sync .entry)) (now (sync .exit))) ⌝ }
 {
-    match json::name(s, at) {
-        text::Scan::Done(j) => {
-            let line = table::line_of(s, at, 4);
-            let v = text::blank(s, j);
-            let end = if line == 5 {
-                kept(s, v, 3, 10, sync)
-            } else {
-                passed(s, v, table::value_kind(line), 11)
-            };
-            Step {
-                line: line,
-                at: v,
-                end: end,
-            }
-        }
-        text::Scan::Bad(_) => Step {
+    let j = name_end(s, at);
+    if j == 0 {
+        return Step {
             line: 20,
             at: 0,
             end: 0,
-        },
-        text::Scan::Deep(_) => Step {
-            line: 20,
-            at: 0,
-            end: 0,
-        },
+        };
+    }
+    let line = table::line_of(s, at, 4);
+    let v = text::blank(s, j);
+    let end = if line == 5 {
+        kept(s, v, 3, 10, sync)
+    } else {
+        passed(s, v, table::value_kind(line), 11)
+    };
+    Step {
+        line: line,
+        at: v,
+        end: end,
     }
 }
 
@@ -362,27 +409,21 @@ fn entry_member(
     requires { ⌜ (length (now ix) ≡ 2470) × (base + 77 ≤ 2470) ⌝ }
     ensures { λ r. ⌜ ((r .end ≡ 0 → ⊥) → Entered 8 12 (now (s .entry)) at (r .line) (r .at) (r .end) × EntryPuts (now (s .entry)) base (r .line) (r .at) (now (ix .entry)) (now (ix .exit)) (now (machine .entry)) (now (machine .exit)) (now (clocks .entry)) (now (clocks .exit))) ⌝ }
 {
-    match json::name(s, at) {
-        text::Scan::Done(j) => {
-            let line = table::line_of(s, at, 8);
-            let v = text::blank(s, j);
-            let end = entry_value(s, v, line, base, ix, machine, clocks);
-            Step {
-                line: line,
-                at: v,
-                end: end,
-            }
-        }
-        text::Scan::Bad(_) => Step {
+    let j = name_end(s, at);
+    if j == 0 {
+        return Step {
             line: 20,
             at: 0,
             end: 0,
-        },
-        text::Scan::Deep(_) => Step {
-            line: 20,
-            at: 0,
-            end: 0,
-        },
+        };
+    }
+    let line = table::line_of(s, at, 8);
+    let v = text::blank(s, j);
+    let end = entry_value(s, v, line, base, ix, machine, clocks);
+    Step {
+        line: line,
+        at: v,
+        end: end,
     }
 }
 
@@ -542,27 +583,21 @@ fn manifest_member(s: &[u8], at: usize, ix: &mut [usize; 2470], trace: &mut [usi
     requires { ⌜ length (now ix) ≡ 2470 ⌝ }
     ensures { λ r. ⌜ ((r .end ≡ 0 → ⊥) → Entered 11 14 (now (s .entry)) at (r .line) (r .at) (r .end) × ManifestPuts (now (s .entry)) (r .line) (r .at) (now (ix .entry)) (now (ix .exit)) (now (trace .entry)) (now (trace .exit))) ⌝ }
 {
-    match json::name(s, at) {
-        text::Scan::Done(j) => {
-            let line = table::line_of(s, at, 11);
-            let v = text::blank(s, j);
-            let end = manifest_value(s, v, line, ix, trace);
-            Step {
-                line: line,
-                at: v,
-                end: end,
-            }
-        }
-        text::Scan::Bad(_) => Step {
+    let j = name_end(s, at);
+    if j == 0 {
+        return Step {
             line: 20,
             at: 0,
             end: 0,
-        },
-        text::Scan::Deep(_) => Step {
-            line: 20,
-            at: 0,
-            end: 0,
-        },
+        };
+    }
+    let line = table::line_of(s, at, 11);
+    let v = text::blank(s, j);
+    let end = manifest_value(s, v, line, ix, trace);
+    Step {
+        line: line,
+        at: v,
+        end: end,
     }
 }
 
@@ -642,18 +677,16 @@ fn walked(s: &[u8], ix: &mut [usize; 2470]) -> bool
     if text::byte(s, start) != 123 {
         return false;
     }
-    match json::name(s, text::blank(s, start + 1)) {
-        text::Scan::Done(j) => {
-            clear(ix);
-            let end = manifest(s, text::blank(s, j), ix);
-            if end == 0 {
-                return false;
-            }
-            closes(s, end)
-        }
-        text::Scan::Bad(_) => false,
-        text::Scan::Deep(_) => false,
+    let j = name_end(s, text::blank(s, start + 1));
+    if j == 0 {
+        return false;
     }
+    clear(ix);
+    let end = manifest(s, text::blank(s, j), ix);
+    if end == 0 {
+        return false;
+    }
+    closes(s, end)
 }
 
 // Refusals 1 to 4 of a text that has bytes; 0 if none applies. Between 3 and 4 the byte that comes first decides.

@@ -110,7 +110,9 @@ fn head(s: &[u8], at: usize) -> Opening
     if s[at + 1] != 92 {
         return none;
     }
-    match text::character(s, at + 1) {
+    // (a copy, so that the slice itself stays in registers: what is handed on has to lie in memory)
+    let string = s;
+    match text::character(string, at + 1) {
         text::Code::Of(v, j) => Opening { letter: v, next: j },
         text::Code::No(_) => none,
     }

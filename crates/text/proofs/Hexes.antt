@@ -1,13 +1,13 @@
 -- An escape of a backslash and a u is told by its digits as numbers: each way out of the code that tells it says what reading the character there gives. Assumes nothing.
 use mathlib.Core.Path.{_≡_, refl, sym, ap, _∙_}
-use mathlib.Core.Bool.{true}
+use mathlib.Core.Bool.{Bool, true, false, _&&_}
 use Prim.Native.Nat.{ℕ, _+_, _*_, _/_, _%_, _-_, _≤_, _<_}
 use native.Mathlib.Omega.{arith}
 use native.Mathlib.Decide.{ℕ-discrete}
 use lib.ListN.{length, getD}
-use lib.Dec.{ltb}
-use borrow.Author.Tests.{lt-ltb, eq-eqb, ne-eqb}
-use Rattle.text.specs.Reading.{Text, Out, done, bad, deep, peek}
+use lib.Dec.{ltb, eqb}
+use borrow.Author.Tests.{lt-ltb, le-ltb, eq-eqb, ne-eqb, eqb-true}
+use Rattle.text.specs.Reading.{Text, Out, done, bad, deep, pick, peek}
 use Rattle.text.specs.Strings.{hexOf, character}
 use Rattle.text.specs.Escapes.{packed, longAt}
 use Rattle.text.specs.laws.Readers.{pick-true, pick-false, at-done-le}
@@ -19,8 +19,61 @@ use Rattle.text.specs.laws.Escapes.{digitsAt, Digits, digits-in, digits-
 pub digit-found : (s : Text) (i : ℕ) {b h : ℕ} → b ≡ getD s i 0 → h ≡ hexOf b → i < length s → h ≡ hexOf (peek s i)
 digit-found s i e f l = f ∙ ap hexOf (e ∙ peek-at s i l)
 
-pub a-digit : {h : ℕ} → h ≤ 15 → ltb h 16 ≡ true
-a-digit {h} l = lt-ltb h 16 (omega arith)
+-- h is the value x of a digit, or of none
+is-digit : {h x : ℕ} → h ≡ x → h ≤ 15 → ltb x 16 ≡ true
+is-digit {h} {x} e l = lt-ltb x 16 (omega arith)
+
+no-digit : {h x : ℕ} → h ≡ x → 15 < h → ltb x 16 ≡ false
+no-digit {h} {x} e l = le-ltb x 16 (omega arith)
+
+-- where one of the last two is none, the first two do not matter
+beyond : (x y : Bool) {n : ℕ} → n ≡ 65536 → 65536 ≡ pick x (pick y n 65536) 65536
+unfolding pick
+beyond true true e = sym e
+beyond true false e = refl
+beyond false y e = refl
+
+both-true : (x y : Bool) → (x && y) ≡ true → (x ≡ true) × (y ≡ true)
+both-true true y e = (refl, e)
+both-true false y e = let z : _≡_ {A = ℕ} 0 1 = cc in absurd (omega arith)
+
+zero-digit : (s : Text) (i : ℕ) → i < length s → eqb (getD s i 0) 48 ≡ true → 0 ≡ hexOf (peek s i)
+unfolding hexOf pick
+zero-digit s i l e = ap hexOf (sym (eqb-true _ _ e) ∙ peek-at s i l)
+
+-- the digits' number, as it is told from the last two on: a, b, c and d are the values of the four
+module _ (s : Text) (i : ℕ) {c : ℕ} (ec : c ≡ hexOf (peek s (i + 2))) where
+  pub third-none : 15 < c → 65536 ≡ digitsAt s i
+  unfolding digitsAt
+  third-none h = beyond _ _ (pick-false _ _ (no-digit ec h))
+
+  module _ (lc : c ≤ 15) {d : ℕ} (ed : d ≡ hexOf (peek s (i + 3))) where
+    pub fourth-none : 15 < d → 65536 ≡ digitsAt s i
+    unfolding digitsAt
+    fourth-none h = beyond _ _ (pick-true _ _ (is-digit ec lc) ∙ pick-false _ _ (no-digit ed h))
+
+    module _ (ld : d ≤ 15) where
+      pub all-four : {a b : ℕ} → a ≡ hexOf (peek s i) → a ≤ 15 → b ≡ hexOf (peek s (i + 1)) → b ≤ 15 → (a * 16 + b) * 256 + (c * 16 + d) ≡ digitsAt s i
+      all-four ea la eb lb = digits-are s i (record { first = omega arith; second = omega arith; third = omega arith; fourth = omega arith; number = omega arith })
+
+      -- the first two bytes are 0
+      pub zeros-before : i + 4 ≤ length s → {r : Bool} → r ≡ (eqb (getD s i 0) 48 && eqb (getD s (i + 1) 0) 48) → r ≡ true → c * 16 + d ≡ digitsAt s i
+      zeros-before l e h =
+          let q : c * 16 + d ≡ (0 * 16 + 0) * 256 + (c * 16 + d) = omega arith in
+          let m : i < length s = omega arith in
+          let n : i + 1 < length s = omega arith in
+          let z : 0 ≤ 15 = omega arith in
+          let w = both-true _ _ (sym e ∙ h) in
+          q ∙ all-four (zero-digit s i m (w .0)) z (zero-digit s (i + 1) n (w .1)) z
+
+module _ (s : Text) (i : ℕ) {a : ℕ} (ea : a ≡ hexOf (peek s i)) where
+  pub first-none : 15 < a → 65536 ≡ digitsAt s i
+  unfolding digitsAt
+  first-none h = sym (pick-false _ _ (no-digit ea h))
+
+  pub second-none : a ≤ 15 → {b : ℕ} → b ≡ hexOf (peek s (i + 1)) → 15 < b → 65536 ≡ digitsAt s i
+  unfolding digitsAt
+  second-none la eb h = sym (pick-true _ _ (is-digit ea la) ∙ pick-false _ _ (no-digit eb h))
 
 -- the number of four digits is below 65536
 few : {s : Text} {i v : ℕ} → Digits s i v → v < 65536

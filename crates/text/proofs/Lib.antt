@@ -7,3 +7,4 @@ pub mod Hexes
 pub mod Ends
 pub mod Leads
 pub mod SeveralBytes
+pub mod Widths

@@ -1,7 +1,7 @@
 // The bytes of a JSON text: classes, strings, numbers, literals, whitespace.
 ghost use mathlib.Core.Path.{_≡_};
 ghost use Prim.Native.Nat.{suc, _+_, _*_, _/_, _≤_, _<_, _^_};
-ghost use mathlib.Core.Bool.{true, false, _||_};
+ghost use mathlib.Core.Bool.{true, false, _&&_, _||_};
 ghost use lib.Dec.{eqb};
 ghost use lib.ListN.{length};
 ghost use lib.Count.{trailingZeros};
@@ -9,7 +9,7 @@ ghost use Rattle.text.specs.Reading.{pick, peek, run, word, scan};
 ghost use Rattle.text.specs.Class.{classOf, skip, whitespace, digit as digitOf};
 ghost use Rattle.text.specs.Strings.{hexOf, escapeOf, pairOf, quad as quadOf, low as lowOf, paired as pairedOf, escape as escapeAt, second as secondOf, two as twoOf, three as threeOf, four as fourOf, character as characterOf, codeOf, characters, string as stringOf};
 ghost use Rattle.text.specs.Raw.{pastRaw};
-ghost use Rattle.text.specs.Escapes.{shortAt, longAt, severalAt};
+ghost use Rattle.text.specs.Escapes.{shortAt, longAt, bytesIn, severalAt};
 ghost use Rattle.text.specs.Numbers.{digits as digitsOf, minus as minusOf, sign as signOf, int as intOf, frac as fracOf, exp as expOf, rest as restOf, number as numberOf};
 ghost use Rattle.text.specs.laws.Marks.{marks};
 ghost use Rattle.text.specs.laws.Plain.{own, ownAt, pastOwn, Near};
@@ -162,19 +162,18 @@ pub fn short(s: &[u8], at: usize) -> u32
     escape_of_at(s, at + 1)
 }
 
-// The four hexadecimal digits at a position as a number; 65536 if one is none.
+// Whether two bytes are both the digit 0.
+fn zeros(p: u8, q: u8) -> bool
+    ensures { λ r. ⌜ r ≡ (eqb p 48 && eqb q 48) ⌝ }
+{
+    if p == 48 { q == 48 } else { false }
+}
+
+// The four hexadecimal digits at a position as a number; 65536 if one is none. The last two first: most escapes are of control characters or Latin-1, and begin with zeros.
 fn four_digits(s: &[u8], at: usize) -> u32
     requires { ⌜ at + 4 ≤ length (now s) ⌝ }
     ensures { λ r. ⌜ r ≡ digitsAt (now (s .entry)) at ⌝ }
 {
-    let a = hex_of(widen(s[at]));
-    if 15 < a {
-        return 65536;
-    }
-    let b = hex_of(widen(s[at + 1]));
-    if 15 < b {
-        return 65536;
-    }
     let c = hex_of(widen(s[at + 2]));
     if 15 < c {
         return 65536;
@@ -183,7 +182,19 @@ fn four_digits(s: &[u8], at: usize) -> u32
     if 15 < d {
         return 65536;
     }
-    ((a * 16 + b) * 16 + c) * 16 + d
+    let low = c * 16 + d;
+    if zeros(s[at], s[at + 1]) {
+        return low;
+    }
+    let a = hex_of(widen(s[at]));
+    if 15 < a {
+        return 65536;
+    }
+    let b = hex_of(widen(s[at + 1]));
+    if 15 < b {
+        return 65536;
+    }
+    (a * 16 + b) * 256 + low
 }
 
 // The same as `long`, where a backslash, a u and the digits of a surrogate v stand: a low one is no character, and a high one asks for a low one after it.
@@ -535,8 +546,8 @@ pub fn past_plain(s: &[u8], at: usize) -> usize
     past_singly(s, past_blocks(s, at + 16), s.len())
 }
 
-// A character of a string whose first byte is not plain, most often one of several bytes: by comparing that byte, since a table is laid out on the stack for each use.
-// `closed` alone calls it, so that the compiler lays it into its loop.
+// A character of a string whose first byte is not plain: by comparing that byte, since a table is laid out on the stack for each use. `closed` alone calls it, for the
+// bad position.
 fn odd(s: &[u8], at: usize) -> Code
     requires { ⌜ (at < length (now s)) × (own (peek (now s) at) ≡ false) ⌝ }
     ensures { λ r. ⌜ r ≡ codeOf (characterOf (now (s .entry)) at) ⌝ }
@@ -664,39 +675,68 @@ pub fn past_raw(s: &[u8], at: usize) -> usize
     i
 }
 
-// The characters at a position, to the closing quote. What is tried first costs least: after a character that is no plain byte another such often follows.
+// How many bytes the escape at a position has, 2, 6 or 12; 0 where none stands. Each number stands behind a branch, so that the next position does not wait for the digits' value.
+fn escape_width(s: &[u8], at: usize) -> usize
+    requires { ⌜ peek (now s) at ≡ 92 ⌝ }
+    ensures { λ r. ⌜ r ≡ bytesIn at (characterOf (now (s .entry)) at) ⌝ }
+{
+    if 0 < escape_of_at(s, at + 1) {
+        return 2;
+    }
+    let e = long(s, at);
+    if e % 16 == 6 {
+        return 6;
+    }
+    if e == 0 {
+        return 0;
+    }
+    12
+}
+
+// How many bytes the character at a position has whose first byte is not plain; 0 where none stands, as at a quote.
+fn odd_width(s: &[u8], at: usize) -> usize
+    requires { ⌜ (at < length (now s)) × (own (peek (now s) at) ≡ false) ⌝ }
+    ensures { λ r. ⌜ r ≡ bytesIn at (characterOf (now (s .entry)) at) ⌝ }
+{
+    let lead = s[at];
+    if 127 < lead {
+        return wide(s, at);
+    }
+    if lead == 92 {
+        return escape_width(s, at);
+    }
+    0
+}
+
+// The characters at a position, to the closing quote. Each is passed by its width; where none stands, `odd` tells the bad position.
 fn closed(s: &[u8], at: usize) -> Scan
     requires { ⌜ at ≤ length (now s) ⌝ }
     ensures { λ r. ⌜ r ≡ scan (characters (suc (length (now (s .entry)))) (now (s .entry)) at) ⌝ }
 {
     let mut i = at;
     while i < s.len() {
-        if 0 < short(s, i) {
-            i += 2;
-            continue;
-        }
-        if s[i] == 34 {
-            return Scan::Done(i + 1);
-        }
-        if plain(s[i]) {
+        let b = s[i];
+        if plain(b) {
             i += 1;
             continue;
         }
-        let e = long(s, i);
-        if 0 < e {
-            i += (e % 16) as usize;
-            continue;
+        if b == 34 {
+            return Scan::Done(i + 1);
         }
-        match odd(s, i) {
-            Code::Of(_, j) => i = j,
-            Code::No(p) => return Scan::Bad(p),
+        let n = odd_width(s, i);
+        if n == 0 {
+            return match odd(s, i) {
+                Code::Of(_, j) => Scan::Bad(j),
+                Code::No(p) => Scan::Bad(p),
+            };
         }
+        i += n;
     }
     Scan::Bad(i)
 }
 
-// A string, from its opening quote on. One that is empty, and one of plain bytes, is told at once; one that begins with an escape has none to pass. (With two calls of
-// `closed` the compiler leaves it a function of its own, and this one is short enough to be laid into its callers.)
+// A string, from its opening quote on. One that is empty, and one of plain bytes, is told at once; one that begins with a character of several bytes has none to pass.
+// (With two calls of `closed` the compiler leaves it a function of its own, and this one is short enough to be laid into its callers.)
 pub fn string(s: &[u8], at: usize) -> Scan
     ensures { λ r. ⌜ r ≡ scan (stringOf (now (s .entry)) at) ⌝ }
 {
@@ -707,7 +747,7 @@ pub fn string(s: &[u8], at: usize) -> Scan
     if byte(s, first) == 34 {
         return Scan::Done(first + 1);
     }
-    if byte(s, first) == 92 {
+    if 127 < byte(s, first) {
         return closed(s, first);
     }
     let end = past_plain(s, first);

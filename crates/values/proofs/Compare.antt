@@ -226,10 +226,10 @@ module _ (t : Text) (k : ℕ) {v : ℕ} (l : v < 128) {b : ℕ} (e : b ≡ peek 
   unfolding startsFrom
   one-stands = ap (eqb v) e ∙ ap (λ (u : Text). startsFrom true u t k) (sym (few-one v l))
 
-  pub went-one : b ≡ v → Went t k v (k + 1)
+  went-one : b ≡ v → Went t k v (k + 1)
   went-one h = went-on t k v one-stands (eq-eqb v b (sym h)) (few-width l) (omega (arith, peek-in t k (omega arith)))
 
-  pub went-other : (b ≡ v → ⊥) → Went t k v (length t + 1)
+  went-other : (b ≡ v → ⊥) → Went t k v (length t + 1)
   went-other h = went-not t k v one-stands (ne-eqb v b (λ q. h (sym q)))
 
 pub ends-start : (o : Out Text) (t : Text) → endsFrom o t 0 ≡ endsIn o t
@@ -254,15 +254,21 @@ module _ (s t : Text) (k i : ℕ) {r : ℕ} (inv : endsFrom (rest s i) t k ≡ r
   pub ends-more : (peek s i ≡ 34 → ⊥) → {v j w : ℕ} → character s i ≡ done v j → Went t k v w → endsFrom (rest s j) t w ≡ r
   ends-more h {v} {j} e g = sym (g .on (rest s j)) ∙ ap (λ (o : Out Text). endsFrom o t k) (sym (rest-char s i h e)) ∙ inv
 
+  -- a character of one byte
+  module _ (h : peek s i ≡ 34 → ⊥) {v j : ℕ} (e : character s i ≡ done v j) (l : v < 128) {x : ℕ} (f : x ≡ peek t k) where
+    pub ends-one-other : (x ≡ v → ⊥) → length t + 1 ≡ r
+    ends-one-other n = sym (ends-past (rest s j) t (length t + 1) (omega arith)) ∙ ends-more h e (went-other t k l f n)
+
+    pub ends-one-more : x ≡ v → endsFrom (rest s j) t (k + 1) ≡ r
+    ends-one-more q = ends-more h e (went-one t k l f q)
+
   -- a byte that is a character by itself
   module _ {b : ℕ} (e : b ≡ peek s i) (n : b ≡ 34 → ⊥) (o : Ordinary b) {x : ℕ} (f : x ≡ peek t k) where
     pub ends-byte-other : (x ≡ b → ⊥) → length t + 1 ≡ r
-    ends-byte-other h =
-        sym (ends-past (rest s (i + 1)) t (length t + 1) (omega arith))
-        ∙ ends-more (λ q. n (e ∙ q)) (reads-itself s i e o n) (went-other t k (omega (arith, o .high)) f h)
+    ends-byte-other = ends-one-other (λ q. n (e ∙ q)) (reads-itself s i e o n) (omega (arith, o .high)) f
 
     pub ends-byte-more : x ≡ b → endsFrom (rest s (i + 1)) t (k + 1) ≡ r
-    ends-byte-more h = ends-more (λ q. n (e ∙ q)) (reads-itself s i e o n) (went-one t k (omega (arith, o .high)) f h)
+    ends-byte-more = ends-one-more (λ q. n (e ∙ q)) (reads-itself s i e o n) (omega (arith, o .high)) f
 
 -- characters that stand for their own bytes, which are those of t
 pub ends-raws : (s t : Text) (k i : ℕ) {r x : ℕ} → endsFrom (rest s i) t k ≡ x → Raws s i t k r → endsFrom (rest s (i + r)) t (k + r) ≡ x
@@ -290,13 +296,17 @@ pub same-none : (s : Text) (p : ℕ) (t : Text) → (peek s p ≡ 34 → ⊥) �
 unfolding sameAs isText
 same-none s p t h = sym (ap (λ (o : Out Text). isText o t) (string-none s p h))
 
--- n is where the string ends in t, of which the first r bytes were passed
-pub same-ends : (s : Text) (p : ℕ) (t : Text) {r n : ℕ} → peek s p ≡ 34 → Alike s (p + 1) t 0 r → n ≡ endsFrom (rest s (p + 1 + r)) t r → eqb n (length t) ≡ sameAs s p t
+pub same-start : (s : Text) (p : ℕ) (t : Text) → peek s p ≡ 34 → isText (rest s (p + 1)) t ≡ sameAs s p t
 unfolding sameAs
-same-ends s p t {r} {n} h a e =
-    ap (λ (m : ℕ). eqb m (length t)) (e ∙ ends-turns s t (p + 1) r a ∙ ends-start (rest s (p + 1)) t)
-    ∙ sym (ends-whole (rest s (p + 1)) t)
-    ∙ ap (λ (o : Out Text). isText o t) (sym (string-is s p h))
+same-start s p t h = ap (λ (o : Out Text). isText o t) (sym (string-is s p h))
+
+-- n is where it ends in t
+pub same-ends : (o : Out Text) (t : Text) {n : ℕ} → n ≡ endsIn o t → eqb n (length t) ≡ isText o t
+same-ends o t e = ap (λ (m : ℕ). eqb m (length t)) e ∙ sym (ends-whole o t)
+
+-- the same after the first r bytes of t were passed
+pub same-turns : (s t : Text) (i : ℕ) {r n : ℕ} → Alike s i t 0 r → n ≡ endsFrom (rest s (i + r)) t r → eqb n (length t) ≡ isText (rest s i) t
+same-turns s t i {r} a e = same-ends (rest s i) t (e ∙ ends-turns s t i r a ∙ ends-start (rest s i) t)
 
 -- ---- the comparison with another string: equal texts have equal characters
 
@@ -494,6 +504,17 @@ passed-none s i k =
       on = ap (λ (n : ℕ). bothText (rest s n) (rest s (k + 0))) (add-zero i) ∙ ap (λ (n : ℕ). bothText (rest s i) (rest s n)) (add-zero k);
     }
 
+-- m bytes more, past n that were passed
+pub passed-join : (s : Text) (i k : ℕ) {n m : ℕ} → Passed s i k n → Passed s (i + n) (k + n) m → Passed s i k (n + m)
+passed-join s i k {n} {m} a b =
+    let p : i + (n + m) ≡ i + n + m = omega arith in
+    let q : k + (n + m) ≡ k + n + m = omega arith in
+    record {
+      left = omega (arith, a .left, b .left);
+      right = omega (arith, a .right, b .right);
+      on = ap (λ (j : ℕ). bothText (rest s j) (rest s (k + (n + m)))) p ∙ ap (λ (j : ℕ). bothText (rest s (i + n + m)) (rest s j)) q ∙ b .on ∙ a .on;
+    }
+
 -- one character, read from both
 passed-read : (s : Text) (i k : ℕ) {v n : ℕ} → (peek s i ≡ 34 → ⊥) → (peek s k ≡ 34 → ⊥) → character s i ≡ done v (i + n) → character s k ≡ done v (k + n) → Passed s i k n
 passed-read s i k {v} {n} g h ei ek =
@@ -505,13 +526,12 @@ passed-read s i k {v} {n} g h ei ek =
 pub passed-byte : (s : Text) (i k : ℕ) {b : ℕ} → b ≡ peek s i → b ≡ peek s k → (b ≡ 34 → ⊥) → Ordinary b → Passed s i k 1
 passed-byte s i k e f n o = passed-read s i k (λ q. n (e ∙ q)) (λ q. n (f ∙ q)) (reads-itself s i e o n) (reads-itself s k f o n)
 
--- an escape of two bytes
-pub passed-short : (s : Text) (i k : ℕ) → peek s i ≡ 92 → peek s k ≡ 92 → {a b d : ℕ} → a ≡ shortAt s i → (a ≡ 0 → ⊥) → b ≡ peek s (i + 1) → d ≡ peek s (k + 1) → b ≡ d → Passed s i k 2
+-- an escape of two bytes: its letter tells it
+pub passed-short : (s : Text) (i k : ℕ) {a b d : ℕ} → a ≡ shortAt s i → 0 < a → peek s k ≡ 92 → b ≡ peek s (i + 1) → d ≡ peek s (k + 1) → b ≡ d → Passed s i k 2
 unfolding shortAt
-passed-short s i k hi hk {a} ea n eb ed q =
-    let l : 0 < a = omega arith in
+passed-short s i k {a} ea l hk eb ed q =
     let letter : escapeOf (peek s (i + 1)) ≡ escapeOf (peek s (k + 1)) = ap escapeOf (sym eb ∙ q ∙ ed) in
-    let f : a ≡ shortAt s k = ea ∙ pick-true _ _ (eq-eqb _ _ hi) ∙ letter ∙ sym (pick-true _ _ (eq-eqb _ _ hk)) in
+    let f : a ≡ shortAt s k = ea ∙ pick-true _ _ (eq-eqb _ _ (short-at s i ea l .0)) ∙ letter ∙ sym (pick-true _ _ (eq-eqb _ _ hk)) in
     passed-read s i k (short-open s i ea l) (short-open s k f l) (short-reads s i ea l) (short-reads s k f l)
 
 -- a longer one, by its number

@@ -9,7 +9,7 @@ ghost use Rattle.text.specs.Reading.{pick, peek, part};
 ghost use Rattle.text.specs.Class.{digit};
 ghost use Rattle.text.specs.Strings.{utf8};
 ghost use Rattle.values.specs.Stands.{kindBy, kindAt};
-ghost use Rattle.values.specs.Strings.{lengthAt, sameAs, rest, endsIn, bothText, sameTexts};
+ghost use Rattle.values.specs.Strings.{lengthAt, isText, sameAs, rest, endsIn, bothText, sameTexts};
 ghost use Rattle.values.specs.Integer.{whole, broken as brokenOf, decimal, ranged, integer, integerAt};
 ghost use Rattle.text.specs.Escapes.{shortAt};
 ghost use Rattle.text.specs.laws.Plain.{own};
@@ -192,15 +192,26 @@ fn ordinary(b: u32) -> bool
     b != 92
 }
 
-// The string at a position, unescaped, is a text; false where no string stands. No copy is made: plain bytes are compared in blocks, and what is left as `begun_rest` does.
+// The string at a position, unescaped, is a text; false where no string stands. No copy is made: a text with no room for a block is compared byte by byte.
 pub fn same_as(s: &[u8], at: usize, t: &[u8]) -> bool
     ensures { λ r. ⌜ r ≡ sameAs (now (s .entry)) at (now (t .entry)) ⌝ }
 {
     if text::byte(s, at) != 34 {
         return false;
     }
-    let n = alike_blocks(s, at + 1, t, 0);
-    begun_rest(s, at + 1 + n, t, n) == t.len()
+    if t.len() < 16 {
+        return begun(s, at + 1, t) == t.len();
+    }
+    same_long(s, at + 1, t)
+}
+
+// What is left of a string from a position on is a text: plain bytes are compared in blocks, and what is left then as `begun_rest` does.
+fn same_long(s: &[u8], first: usize, t: &[u8]) -> bool
+    requires { ⌜ first ≤ length (now s) ⌝ }
+    ensures { λ r. ⌜ r ≡ isText (rest (now (s .entry)) first) (now (t .entry)) ⌝ }
+{
+    let n = alike_blocks(s, first, t, 0);
+    begun_rest(s, first + n, t, n) == t.len()
 }
 
 // How many bytes at two positions are the same, up to the first that is no part of a character that stands for its own bytes: a control byte, a quote, a backslash.
@@ -241,18 +252,6 @@ fn raw_alike(s: &[u8], i: usize, t: &[u8], k: usize, b: u32) -> usize
     }
     let n = same_bytes(s, i, t, k);
     text::past_raw(&s[..i + n], i) - i
-}
-
-// Past a byte that stands in a text at a position; past the end of the text if another stands there.
-fn past_one(t: &[u8], k: usize, x: u32) -> usize
-    requires { ⌜ x < 128 ⌝ }
-    ensures { λ r. ⌜ Went (now (t .entry)) k x r ⌝ }
-{
-    if text::byte(t, k) == x {
-        k + 1
-    } else {
-        t.len() + 1
-    }
 }
 
 // Past the bytes of a code point that stand in a text at a position; past the end of the text if they do not.
@@ -309,7 +308,10 @@ fn begun_rest(s: &[u8], from: usize, t: &[u8], start: usize) -> usize
     while end <= t.len() {
         let a = text::short(s, i);
         if 0 < a {
-            end = past_one(t, end, a);
+            if text::byte(t, end) != a {
+                return other;
+            }
+            end += 1;
             i += 2;
             continue;
         }
@@ -318,7 +320,10 @@ fn begun_rest(s: &[u8], from: usize, t: &[u8], start: usize) -> usize
             return end;
         }
         if ordinary(b) {
-            end = past_one(t, end, b);
+            if text::byte(t, end) != b {
+                return other;
+            }
+            end += 1;
             i += 1;
             continue;
         }
@@ -338,10 +343,10 @@ fn begun_rest(s: &[u8], from: usize, t: &[u8], start: usize) -> usize
     end
 }
 
-// How many bytes are left, unescaped, of a string that goes on at a position, if a text begins with them; one more than the text has if it does not, or the string
-// goes wrong. Bytes that are characters by themselves are compared in a loop without a call, and what has others is left to `begun_rest`.
-pub fn begun(s: &[u8], from: usize, t: &[u8]) -> usize
-    ensures { λ r. ⌜ r ≡ endsIn (rest (now (s .entry)) from) (now (t .entry)) ⌝ }
+// What `begun` gives where each character that decides it is a byte that is one by itself; two more than the text has where another is met first. Only `text::byte` is given the
+// texts, so that they stay in registers through the loop.
+fn begun_plain(s: &[u8], from: usize, t: &[u8]) -> usize
+    ensures { λ r. ⌜ (r ≤ length (now (t .entry)) + 1 → r ≡ endsIn (rest (now (s .entry)) from) (now (t .entry))) ⌝ }
 {
     let mut i = from;
     let mut n = 0;
@@ -351,7 +356,7 @@ pub fn begun(s: &[u8], from: usize, t: &[u8]) -> usize
             return n;
         }
         if !ordinary(b) {
-            return begun_rest(s, i, t, n);
+            return t.len() + 2;
         }
         if text::byte(t, n) != b {
             return t.len() + 1;
@@ -359,6 +364,21 @@ pub fn begun(s: &[u8], from: usize, t: &[u8]) -> usize
         i += 1;
         n += 1;
     }
+}
+
+// How many bytes are left, unescaped, of a string that goes on at a position, if a text begins with them; one more than the text has if it does not, or the string
+// goes wrong. Most strings have only bytes that are characters by themselves; one with another character is compared anew by `begun_rest`.
+pub fn begun(s: &[u8], from: usize, t: &[u8]) -> usize
+    ensures { λ r. ⌜ r ≡ endsIn (rest (now (s .entry)) from) (now (t .entry)) ⌝ }
+{
+    let n = begun_plain(s, from, t);
+    if n <= t.len() + 1 {
+        return n;
+    }
+    // (copies, so that the slices themselves stay in registers: what is handed on has to lie in memory)
+    let string = s;
+    let word = t;
+    begun_rest(string, from, word, 0)
 }
 
 // 1 for a plain byte twice, so that they can be counted without a branch.
@@ -410,18 +430,21 @@ fn alike_blocks(s: &[u8], i: usize, t: &[u8], k: usize) -> usize
     n
 }
 
-// How many bytes can be passed at two positions, each with a backslash, since both are one escape of two bytes; 0 where they are to be read.
+// How many bytes can be passed at two positions, since the same escapes of two bytes stand at both, in a row; 0 where the first are to be read.
 fn short_twice(s: &[u8], i: usize, k: usize) -> usize
-    requires { ⌜ (peek (now s) i ≡ 92) × (peek (now s) k ≡ 92) ⌝ }
     ensures { λ r. ⌜ Passed (now (s .entry)) i k r ⌝ }
 {
-    if text::short(s, i) == 0 {
-        return 0;
+    let mut n: usize = 0;
+    while 0 < text::short(s, i + n) {
+        if text::byte(s, k + n) != 92 {
+            return n;
+        }
+        if text::byte(s, i + n + 1) != text::byte(s, k + n + 1) {
+            return n;
+        }
+        n += 2;
     }
-    if text::byte(s, i + 1) != text::byte(s, k + 1) {
-        return 0;
-    }
-    2
+    n
 }
 
 // The same where a backslash stands at both: by the letter after it, or by the number of a longer escape, which tells how many bytes it has.

@@ -14,7 +14,7 @@ use Rattle.manifest.specs.View.{Cell, absent, one}
 use Rattle.manifest.specs.Rows.{Entry, is-absent, holds}
 use Rattle.manifest.specs.Rules.{named-entry, no-entry}
 use Rattle.index.specs.Index.{textAt, colOf, at, textCell, entryAt, manifestOf}
-use Rattle.finds.specs.Finds.{entryOf, citesOf, traceCited}
+use Rattle.finds.specs.Finds.{entryOf, citesOf, traceCited, entryCited}
 use Rattle.finds.specs.Theorems.{find-is, named-entry-is}
 use Rattle.finds.specs.laws.Cites.{cited-some, cites-at, cites-right}
 use Rattle.cited.specs.laws.Cells.{holds-none, holds-some}
@@ -61,7 +61,7 @@ module _ (s : Text) (ix : List ℕ) (p : ℕ) where
 -- the `file` of `trace_time`, where it is known which entry it names
 module _ (s : Text) (ix : List ℕ) {e : ℕ} (et : e ≡ traceCited s ix) where
   pub named-by-trace : named-entry (manifestOf s ix) (textCell s (getD ix 3 0)) ≡ foundAt s ix e
-  unfolding traceCited
+  unfolding entryCited
   named-by-trace = go (ℕ-discrete (getD ix 3 0) 0)
     where
       go : Dec (getD ix 3 0 ≡ 0) → named-entry (manifestOf s ix) (textCell s (getD ix 3 0)) ≡ foundAt s ix e
@@ -69,7 +69,7 @@ module _ (s : Text) (ix : List ℕ) {e : ℕ} (et : e ≡ traceCited s ix) where
       go (no n) = named-some s ix (getD ix 3 0) n (et ∙ pick-false 32 _ (ne-eqb (getD ix 3 0) 0 n))
 
   pub cites-by-trace : (getD ix 3 0 ≡ 0 → ⊥) → not (ltb e 32) ≡ holds (no-entry (manifestOf s ix)) (textCell s (getD ix 3 0))
-  unfolding traceCited
+  unfolding entryCited
   cites-by-trace n = cites-some s ix (getD ix 3 0) n (et ∙ pick-false 32 _ (ne-eqb (getD ix 3 0) 0 n))
 
 -- the `file` of the `sync_to` of entry i, by the table

@@ -11,24 +11,24 @@ use Rattle.text.specs.laws.Readers.{pick-true, pick-false}
 use Rattle.manifest.specs.View.{absent}
 use Rattle.manifest.specs.Rules.{named-entry}
 use Rattle.index.specs.Index.{textAt, colOf, at, textCell, manifestOf}
-use Rattle.named.specs.laws.Tables.{table-at}
-use Rattle.finds.specs.Finds.{entryOf, citedBy, citesOf}
+use Rattle.prints.specs.laws.Tables.{table-at}
+use Rattle.finds.specs.Finds.{entryOf, citedBy, citesOf, entryCited}
 use Rattle.finds.specs.laws.Paths.{foundAt, named-right}
 
 module _ (s : Text) (ix : List ℕ) (i : ℕ) where
   -- p is where the `file` stands
   module _ {p : ℕ} (ep : p ≡ colOf ix i 8) where
     pub cited-none : p ≡ 0 → citedBy s ix i ≡ 32
-    unfolding citedBy
+    unfolding entryCited
     cited-none h = pick-true _ _ (eq-eqb (colOf ix i 8) 0 (sym ep ∙ h))
 
     pub cited-some : (p ≡ 0 → ⊥) → citedBy s ix i ≡ entryOf (manifestOf s ix) (textAt s p)
-    unfolding citedBy
+    unfolding entryCited
     cited-some h = pick-false _ _ (ne-eqb (colOf ix i 8) 0 (λ q. h (ep ∙ q))) ∙ ap (λ (q : ℕ). entryOf (manifestOf s ix) (textAt s q)) (sym ep)
 
   -- what the rules find
   pub cited-right : named-entry (manifestOf s ix) (textCell s (colOf ix i 8)) ≡ foundAt s ix (citedBy s ix i)
-  unfolding citedBy at pick
+  unfolding entryCited at pick
   cited-right = named-right s ix (colOf ix i 8) ∙ go (eqb (colOf ix i 8) 0) (entryOf (manifestOf s ix) (textAt s (colOf ix i 8)))
     where
       go : (b : Bool) (e : ℕ) → pick b absent (foundAt s ix e) ≡ foundAt s ix (pick b 32 e)

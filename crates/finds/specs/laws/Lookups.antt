@@ -13,10 +13,10 @@ use Rattle.text.specs.laws.Readers.{pick-true, pick-false}
 use Rattle.manifest.specs.Meaning.{names-in, numberOf}
 use Rattle.index.specs.Index.{colOf, entriesIn, listed, manifestOf, whoseAt}
 use Rattle.index.specs.laws.Entries.{listed-length}
-use Rattle.named.specs.Prints.{printAt, pathPrint, pathPrints}
+use Rattle.prints.specs.Prints.{printAt, pathPrint, pathPrints}
 use Rattle.named.specs.Named.{nameTable, printTable, namePrint, countIn, numberAt}
 use Rattle.named.specs.Theorems.{table-length, count-is, number-is}
-use Rattle.named.specs.laws.Tables.{table-at}
+use Rattle.prints.specs.laws.Tables.{table-at}
 use Rattle.named.specs.laws.Meant.{getD-behind}
 use Rattle.finds.specs.Finds.{citedBy, citesOf, traceCited, fromOne, ofEntries, lookups}
 

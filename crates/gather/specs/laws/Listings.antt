@@ -18,7 +18,7 @@ use Rattle.manifest.specs.Rows.{firstOr, holds}
 use Rattle.manifest.specs.Rules.{has-path}
 use Rattle.index.specs.Index.{textAt, colOf, entriesIn, textCell, listed, entryBy, entryAt, manifestOf}
 use Rattle.index.specs.laws.Entries.{from, entryCell}
-use Rattle.named.specs.Prints.{printFrom, printAt}
+use Rattle.prints.specs.Prints.{printOf, printAt}
 use Rattle.finds.specs.Finds.{entryOf, lookups}
 use Rattle.finds.specs.laws.Firsts.{first-past, first-found, first-on, first-among}
 use Rattle.finds.specs.laws.Paths.{few-entries, path-other, entryFrom, entry-start}
@@ -51,7 +51,7 @@ module _ (s : Text) (ix table : List ℕ) (path : Text) where
     unfolding listedFrom
     listed-past h = first-past (λ j. j) (entriesIn ix) 32 (isListed s ix table path) i (omega arith)
 
-    module _ {print : ℕ} (its : print ≡ printFrom 0 path) (h : i < n) where
+    module _ {print : ℕ} (its : print ≡ printOf path) (h : i < n) where
       -- another print
       pub listed-other : (getD table (96 + i) 0 ≡ print → ⊥) → listedFrom i ≡ listedFrom (i + 1)
       unfolding listedFrom isListed
@@ -78,25 +78,25 @@ module _ (s : Text) (ix table : List ℕ) (path : Text) where
 
 -- ---- by the manifest's table
 
-other-path : (s t : Text) (p : ℕ) {other : ℕ} → other ≡ printAt s p → (other ≡ printFrom 0 t → ⊥) → same t (textAt s p) ≡ false
+other-path : (s t : Text) (p : ℕ) {other : ℕ} → other ≡ printAt s p → (other ≡ printOf t → ⊥) → same t (textAt s p) ≡ false
 unfolding printAt
 other-path s t p {other} e n = go (same t (textAt s p)) refl
   where
     go : (b : Bool) → same t (textAt s p) ≡ b → b ≡ false
-    go true h = absurd (n (e ∙ ap (printFrom 0) (sym (same-true _ _ h))))
+    go true h = absurd (n (e ∙ ap printOf (sym (same-true _ _ h))))
     go false h = refl
 
 module _ (s : Text) (ix : List ℕ) (t : Text) where
   -- the print decides nothing that the text would not
   text-decides : (i : ℕ) → i < entriesIn ix → isListed s ix (lookups s ix) t i ≡ holds (same t) (textCell s (colOf ix i 0))
   unfolding isListed
-  text-decides i h = go (ℕ-discrete (getD (lookups s ix) (96 + i) 0) (printFrom 0 t))
+  text-decides i h = go (ℕ-discrete (getD (lookups s ix) (96 + i) 0) (printOf t))
     where
       its : getD (lookups s ix) (96 + i) 0 ≡ printAt s (colOf ix i 0)
       its = lookups-print s ix i (omega (arith, few-entries ix)) h
 
-      go : Dec (getD (lookups s ix) (96 + i) 0 ≡ printFrom 0 t)
-          → eqb (getD (lookups s ix) (96 + i) 0) (printFrom 0 t) && holds (same t) (textCell s (colOf ix i 0)) ≡ holds (same t) (textCell s (colOf ix i 0))
+      go : Dec (getD (lookups s ix) (96 + i) 0 ≡ printOf t)
+          → eqb (getD (lookups s ix) (96 + i) 0) (printOf t) && holds (same t) (textCell s (colOf ix i 0)) ≡ holds (same t) (textCell s (colOf ix i 0))
       go (yes e) = ap (λ (b : Bool). b && holds (same t) (textCell s (colOf ix i 0))) (eq-eqb _ _ e)
       go (no n) =
           ap (λ (b : Bool). b && holds (same t) (textCell s (colOf ix i 0))) (ne-eqb _ _ n)

@@ -13,10 +13,10 @@ use Rattle.listed.proofs.path_twice.Statement.{statement}
 use Rattle.listed.proofs.path_twice.Tie as tie
 
 abbrev Inv-loop : tie.InvT-loop
-Inv-loop s ix prints n i₀ i = applies paths-15 (manifestOf s ix) ≡ fromEntry paths-15 s ix i
+Inv-loop s ix prints lengths texts n i₀ i = applies paths-15 (manifestOf s ix) ≡ fromEntry paths-15 s ix i
 
 abbrev μ-loop : tie.MeasureT-loop
-μ-loop s ix prints n i₀ i = n - i
+μ-loop s ix prints lengths texts n i₀ i = n - i
 
 entries-requires : tie.Need-entries-requires Inv-loop μ-loop
 entries-requires c κs = search needs
@@ -44,4 +44,16 @@ returns-2 : tie.Need-returns-2 Inv-loop μ-loop
 returns-2 c = loop-past paths-15 (c .before .before .before .before .args .s .now) (c .before .before .before .before .args .ix .now) (c .before .before .entries .ensures) (c .before .loop .inv) (c .loop-test .left)
 
 pub path-twice-spec : {M : Type 1} → statement M
-path-twice-spec = tie.close (tie.spec Inv-loop μ-loop entries-requires loop-holds path-before-requires returns add-i loop-less loop-again returns-2)
+path-twice-spec =
+    tie.close
+    (tie.spec
+    Inv-loop
+    μ-loop
+    entries-requires
+    loop-holds
+    path-before-requires
+    returns
+    add-i
+    loop-less
+    loop-again
+    returns-2)

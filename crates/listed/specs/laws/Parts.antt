@@ -1,27 +1,22 @@
--- What the functions promise of each other: a rule in one entry, the prints of the cited files, a size at a position, a path before an entry. Assumes nothing.
+-- What the functions promise of each other: a rule in one entry, a size at a position, a path before an entry; and what is read of the paths, with the slots in which they are kept.
+-- Assumes nothing.
+use mathlib.Core.Path.{_≡_}
 use mathlib.Core.Bool.{Bool, not, _||_, _&&_}
 use mathlib.Core.List.{List}
-use Prim.Native.Nat.{ℕ}
+use Prim.Native.Nat.{ℕ, _+_, _*_, _≤_, _<_}
 use lib.Dec.{eqb, ltb}
-use lib.ListN.{take}
+use lib.ListN.{length, getD, take, drop}
 use Rattle.text.specs.Reading.{Text}
 use Rattle.manifest.specs.View.{one}
 use Rattle.manifest.specs.Rows.{holds, any, path, entries}
 use Rattle.manifest.specs.Rules.{Rule, has-path}
-use Rattle.index.specs.Index.{colOf, listed, entryAt, manifestOf}
-use Rattle.named.specs.Prints.{printAt}
+use Rattle.index.specs.Index.{colOf, textAt, entryAt, manifestOf}
+use Rattle.prints.specs.Prints.{printAt, pathPrint, front}
+use Rattle.prints.specs.laws.Tables.{Tabled}
 
 -- rule r applies in entry i
 abbrev pub inEntry : Rule → Text → List ℕ → ℕ → Bool
 inEntry r s ix i = r .within (manifestOf s ix) i (one (entryAt s ix i))
-
--- the print of the file that entry i cites
-abbrev pub filePrint : Text → List ℕ → ℕ → ℕ
-filePrint s ix i = printAt s (colOf ix i 8)
-
--- of entries 0 to 31; where there is no such file, of the text at 0
-unfoldable pub filePrints : Text → List ℕ → List ℕ
-filePrints s ix = listed (filePrint s ix) 0 32
 
 -- a text of n bytes stands at p, and it is no path
 unfoldable pub sizeBroken : ℕ → ℕ → Bool
@@ -30,3 +25,50 @@ sizeBroken p n = not (eqb p 0) && (ltb n 1 || ltb 255 n)
 -- entry i has the path of an entry before it
 unfoldable pub pathBefore : Text → List ℕ → ℕ → Bool
 pathBefore s ix i = holds (λ t. any (holds (has-path t)) (take i (entries (manifestOf s ix)))) (path (entryAt s ix i))
+
+-- ---- slots of 256 bytes
+
+-- slot i of texts
+unfoldable pub slot : List ℕ → ℕ → List ℕ
+slot texts i = take 256 (drop (256 * i) texts)
+
+-- new is old with other bytes in slot i
+pub record Kept (old : List ℕ) (i : ℕ) (bytes new : List ℕ) : Type 0 where
+  pub room : length new ≡ 8448
+  pub here : slot new i ≡ bytes
+  pub others : (j : ℕ) → (j ≡ i → ⊥) → slot new j ≡ slot old j
+
+-- the text at p has n bytes, and the first of them are in slot i
+pub record Held (s texts : List ℕ) (i p n : ℕ) : Type 0 where
+  pub room : length texts ≡ 8448
+  pub among : i ≤ 32
+  pub long : n ≡ length (textAt s p)
+  pub bytes : slot texts i ≡ front (textAt s p)
+
+-- the text at p was measured, and the first of its bytes were put into slot i
+pub record Measured (s : Text) (p : ℕ) (old : List ℕ) (i : ℕ) (new : List ℕ) (n print : ℕ) : Type 0 where
+  pub long : n ≡ length (textAt s p)
+  pub printed : print ≡ printAt s p
+  pub kept : Kept old i (front (textAt s p)) new
+
+-- the n bytes at i and at j are the same
+pub record Agree (texts : List ℕ) (i j n : ℕ) : Type 0 where
+  pub each : (k : ℕ) → k < n → getD texts (i + k) 0 ≡ getD texts (j + k) 0
+
+-- m of the n bytes at i and at j were counted as the same
+pub record Counted (texts : List ℕ) (i j m n : ℕ) : Type 0 where
+  pub few : m ≤ n
+  pub all : m ≡ n → Agree texts i j n
+
+-- ---- the paths of entries
+
+-- the length of the path of entry i
+abbrev pub pathLength : Text → List ℕ → ℕ → ℕ
+pathLength s ix i = length (textAt s (colOf ix i 0))
+
+-- the paths of the first n entries are read: their prints and lengths, and each in the slot of its entry
+pub record Read (s : Text) (ix prints lengths texts : List ℕ) (n : ℕ) : Type 0 where
+  pub printed : Tabled (pathPrint s ix) prints n
+  pub long : Tabled (pathLength s ix) lengths n
+  pub room : length texts ≡ 8448
+  pub bytes : (j : ℕ) → j < n → slot texts j ≡ front (textAt s (colOf ix j 0))

@@ -9,10 +9,10 @@ use borrow.Author.Tests.{eq-eqb, ne-eqb, lt-ltb, le-ltb}
 use Rattle.text.specs.Reading.{Text, pick}
 use Rattle.text.specs.laws.Readers.{pick-true, pick-false}
 use Rattle.manifest.specs.View.{Cell, absent, wrong, many, one}
-use Rattle.manifest.specs.Rows.{TraceTime, Clocks, SyncTo, trace-file, path, syncTo, sync-file, the, holds, any, flat, cited-files}
+use Rattle.manifest.specs.Rows.{TraceTime, Clocks, SyncTo, trace-file, syncTo, sync-file, the, holds, any, flat, cited-files}
 use Rattle.manifest.specs.Rules.{no-path}
 use Rattle.index.specs.Index.{textAt, textCell, at, colOf, syncBy, clocksBy, entryBy, entryAt, traceAt, manifestOf}
-use Rattle.listed.specs.laws.Rules.{paths-10}
+use Rattle.listed.specs.laws.Rules.{own-10, cited-10, trace-10}
 use Rattle.listed.specs.laws.Parts.{inEntry, sizeBroken}
 
 -- the position p of a value inside the value at another position
@@ -63,8 +63,8 @@ module _ (s : Text) (p : ℕ) {n : ℕ} (en : n ≡ length (textAt s p)) where
 -- ---- in `trace_time`
 
 module _ (s : Text) (ix : List ℕ) where
-  trace-are : paths-10 .outside (manifestOf s ix) ≡ holds no-path (textCell s (inside (getD ix 1 0) (getD ix 3 0)))
-  unfolding paths-10 manifestOf at holds pick traceAt
+  trace-are : trace-10 (manifestOf s ix) ≡ holds no-path (textCell s (inside (getD ix 1 0) (getD ix 3 0)))
+  unfolding manifestOf at holds pick traceAt
   trace-are = go (eqb (getD ix 1 0) 0)
     where
       go : (b : Bool) → holds {A = TraceTime} (λ t. holds no-path (trace-file t)) (pick b absent (one (traceAt s ix))) ≡ holds no-path (textCell s (pick b 0 (getD ix 3 0)))
@@ -72,7 +72,7 @@ module _ (s : Text) (ix : List ℕ) where
       go false = refl
 
   -- n is the length of the text at the `file`, and q is where the `file` stands, if there is a `trace_time`
-  pub trace-told : {n q : ℕ} {r : Bool} → n ≡ length (textAt s (getD ix 3 0)) → q ≡ inside (getD ix 1 0) (getD ix 3 0) → r ≡ sizeBroken q n → r ≡ paths-10 .outside (manifestOf s ix)
+  pub trace-told : {n q : ℕ} {r : Bool} → n ≡ length (textAt s (getD ix 3 0)) → q ≡ inside (getD ix 1 0) (getD ix 3 0) → r ≡ sizeBroken q n → r ≡ trace-10 (manifestOf s ix)
   trace-told {n} en eq er = er ∙ ap (λ (x : ℕ). sizeBroken x n) eq ∙ size-inside s (getD ix 3 0) en (getD ix 1 0) ∙ sym trace-are
 
 -- ---- in an entry
@@ -105,18 +105,24 @@ module _ (s : Text) (ix : List ℕ) (i : ℕ) where
   unfolding entryAt entryBy clocksBy syncBy at
   files-are = synced no-path s (syncBy s (colOf ix i)) (clocksBy s (colOf ix i)) (colOf ix i 7) (colOf ix i 8) refl refl (eqb (colOf ix i 4) 0)
 
-  within-are : inEntry paths-10 s ix i ≡ (holds no-path (textCell s (colOf ix i 0)) || holds no-path (textCell s file-at))
-  unfolding paths-10 holds entryAt entryBy
-  within-are = ap (λ (b : Bool). holds no-path (path (entryAt s ix i)) || b) files-are
+  cited-are : inEntry cited-10 s ix i ≡ holds no-path (textCell s file-at)
+  unfolding cited-10 holds
+  cited-are = files-are
 
-  -- the code's positions: of the path, of the cited file, of `clocks`, of `sync_to`; and the lengths of the two texts
-  module _ {p q c v y f m n : ℕ} (ep : p ≡ colOf ix i 0) (eq : q ≡ colOf ix i 8) (em : m ≡ length (textAt s p)) (en : n ≡ length (textAt s q))
-      (ec : c ≡ colOf ix i 4) (ev : v ≡ colOf ix i 7) (ey : y ≡ inside c v) (ef : f ≡ inside y q) where
+  own-is : inEntry own-10 s ix i ≡ holds no-path (textCell s (colOf ix i 0))
+  unfolding own-10 holds entryAt entryBy
+  own-is = refl
+
+  -- the code's position of the path, and its length
+  pub path-told : {p n : ℕ} → p ≡ colOf ix i 0 → n ≡ length (textAt s p) → {r : Bool} → r ≡ sizeBroken p n → r ≡ inEntry own-10 s ix i
+  path-told {p} ep en er = er ∙ size-here s p en ∙ ap (λ (z : ℕ). holds no-path (textCell s z)) ep ∙ sym own-is
+
+  -- the code's positions of the cited file, of `clocks` and of `sync_to`; and the length of the file
+  module _ {q c v y f n : ℕ} (eq : q ≡ colOf ix i 8) (en : n ≡ length (textAt s q)) (ec : c ≡ colOf ix i 4) (ev : v ≡ colOf ix i 7) (ey : y ≡ inside c v) (ef : f ≡ inside y q) where
     file-is : f ≡ file-at
     file-is = ef ∙ (λ k. inside ((ey ∙ (λ l. inside (ec l) (ev l))) k) (eq k))
 
-    pub entry-told : {a b r : Bool} → a ≡ sizeBroken p m → b ≡ sizeBroken f n → r ≡ (a || b) → r ≡ inEntry paths-10 s ix i
-    entry-told {a} {b} ea eb er =
-        let x : a ≡ holds no-path (textCell s (colOf ix i 0)) = ea ∙ size-here s p em ∙ ap (λ (z : ℕ). holds no-path (textCell s z)) ep in
-        let w : b ≡ holds no-path (textCell s file-at) = eb ∙ ap (λ (z : ℕ). sizeBroken z n) ef ∙ size-inside s q en y ∙ ap (λ (z : ℕ). holds no-path (textCell s z)) (sym ef ∙ file-is) in
-        er ∙ (λ k. x k || w k) ∙ sym within-are
+    pub file-told : {r : Bool} → r ≡ sizeBroken f n → r ≡ inEntry cited-10 s ix i
+    file-told er =
+        er ∙ ap (λ (z : ℕ). sizeBroken z n) ef ∙ size-inside s q en y ∙ ap (λ (z : ℕ). holds no-path (textCell s z)) (sym ef ∙ file-is)
+        ∙ sym cited-are

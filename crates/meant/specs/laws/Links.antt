@@ -25,7 +25,7 @@ use Rattle.manifest.specs.laws.Lists.{anyAt-false}
 use Rattle.manifest.specs.laws.Accepted.{no-rule}
 use Rattle.outline.specs.Outline.{domainAt, textAt as outlineText, textIn as outlineIn}
 use Rattle.index.specs.Index.{textIn, textAt, colOf, entriesIn, at, textCell, offsetCell, syncBy, clocksBy, entryBy, entryAt, manifestOf, whoseAt}
-use Rattle.finds.specs.Finds.{entryOf, baseAt, lookups, citedBy, fromOne}
+use Rattle.finds.specs.Finds.{entryOf, baseAt, lookups, citedBy, fromOne, entryCited}
 use Rattle.finds.specs.Theorems.{find-is, base-is}
 use Rattle.named.specs.Named.{numberAt}
 use Rattle.finds.specs.laws.Lookups.{lookups-number, lookups-cited}
@@ -213,7 +213,7 @@ pub link-cites : (s : Text) (ix : List ℕ) (i : ℕ)
     (pick (ltb (entryOf (manifestOf s ix) (textAt s (colOf ix i 8))) 32)
     (relatedTo s ix (lookups s ix) i (entryOf (manifestOf s ix) (textAt s (colOf ix i 8))))
     Unrelated)))
-unfolding linkOf citesBy citedBy
+unfolding linkOf citesBy entryCited
 link-cites s ix i = go (decLt i 32)
   where
     r : ℕ → Link

@@ -16,7 +16,7 @@ use Rattle.manifest.specs.Statements.{Meets, stands, SoundRow}
 use Rattle.manifest.specs.laws.Accepted.{members-sound}
 use Rattle.outline.specs.Outline.{domainAt}
 use Rattle.index.specs.Index.{textAt, at, textCell, traceAt, entryAt, manifestOf, whoseAt}
-use Rattle.finds.specs.Finds.{entryOf, traceCited, baseAt, lookups}
+use Rattle.finds.specs.Finds.{entryOf, traceCited, baseAt, lookups, entryCited}
 use Rattle.finds.specs.Theorems.{find-is, base-is}
 use Rattle.named.specs.Named.{numberAt}
 use Rattle.finds.specs.laws.Lookups.{lookups-number, lookups-trace}
@@ -38,7 +38,7 @@ trace-cites : (s : Text) (ix : List ℕ)
     (pick (eqb (getD ix 3 0) 0) 0
     (pick (ltb (entryOf (manifestOf s ix) (textAt s (getD ix 3 0))) 32) (baseAt s ix (entryOf (manifestOf s ix) (textAt s (getD ix 3 0)))) 0))
     (getD ix 4 0)
-unfolding traceMachineAt traceCites traceCited
+unfolding traceMachineAt traceCites entryCited
 trace-cites s ix =
     ap (λ (p : ℕ). pick (eqb (getD ix 4 0) 0) p (getD ix 4 0))
     (ap (λ (c : ℕ). pick (eqb c 0) 0 (pick (ltb 32 c) 0 (baseAt s ix (c - 1)))) (lookups-trace s ix)

@@ -1,9 +1,9 @@
 -- `named::is_called` meets its contract: at 0 no name stands; the text at p is itself; an empty text, which its print tells, is compared by the length, and any other as a string.
 -- Assumes nothing.
 use mathlib.Core.Path.{_∙_}
-use Rattle.named.specs.laws.Empty.{same-empty, same-string}
+use Rattle.prints.specs.laws.Empty.{same-empty, same-string}
 use Rattle.named.specs.laws.Firsts.{called-none, called-some, called-itself}
-use Rattle.named.specs.laws.Prints.{print-tells}
+use Rattle.prints.specs.laws.Prints.{print-tells}
 use borrow.Author.Tests.{eq-eqb, ne-eqb}
 use mathlib.Core.Path.{sym}
 use borrow.Author.Needs.{needs}

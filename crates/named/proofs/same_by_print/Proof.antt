@@ -1,6 +1,6 @@
 -- `named::same_by_print` meets its contract: texts with the print 0 are both empty; with another print neither is, so both are strings and these decide. Assumes nothing.
 use borrow.Author.Needs.{needs}
-use Rattle.named.specs.laws.Prints.{same-none, same-some}
+use Rattle.prints.specs.laws.Prints.{same-none, same-some}
 use Rattle.named.proofs.same_by_print.Statement.{statement}
 use Rattle.named.proofs.same_by_print.Tie as tie
 

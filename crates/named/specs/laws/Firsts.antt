@@ -16,7 +16,7 @@ use Rattle.numbers.specs.declared.Machine.{Machine}
 use Rattle.manifest.specs.Rows.{any, firstOr}
 use Rattle.index.specs.Index.{textAt, listed}
 use Rattle.index.specs.laws.Entries.{from, from-past, from-here}
-use Rattle.named.specs.Prints.{printAt}
+use Rattle.prints.specs.Prints.{printAt}
 use Rattle.named.specs.Named.{standsAt, isCalled, isNamed, numberBy, numberAt}
 use Rattle.named.specs.laws.Texts.{known}
 

@@ -19,7 +19,7 @@ use Rattle.index.specs.Index.{textIn, textAt}
 use Rattle.named.specs.Named.{namePrint}
 use Rattle.named.specs.laws.Texts.{known}
 use Rattle.named.specs.laws.Firsts.{knownFrom, known-past}
-use Rattle.named.specs.Prints.{printAt}
+use Rattle.prints.specs.Prints.{printAt}
 
 -- beside each of the first n names stands its print; there are no others
 pub record Printed (s : Text) (names prints : List ℕ) (n : ℕ) : Type 0 where

@@ -20,10 +20,10 @@ use Rattle.manifest.specs.laws.Bools.{halves}
 use Rattle.manifest.specs.laws.Lists.{any-append}
 use Rattle.index.specs.Index.{textAt, colOf, itemOf, entriesIn, itemsIn, at, listed, itemBy, entryBy, entryAt, manifestOf, whoseAt}
 use Rattle.index.specs.laws.Entries.{from, entryCell, entries-are, itemAt, items-are}
-use Rattle.named.specs.Prints.{printAt}
+use Rattle.prints.specs.Prints.{printAt}
 use Rattle.named.specs.Named.{place, declaredAt, declaredIn, withoutAt, distinctAt, namesIn, nameTable, namePrint, printTable, standsAt, countIn, isCalled, isNamed, numberBy, numberAt}
 use Rattle.named.specs.laws.Texts.{map-append, distinct-texts}
-use Rattle.named.specs.laws.Prints.{same-print}
+use Rattle.prints.specs.laws.Prints.{same-print}
 use Rattle.named.specs.laws.Once.{placed-first, names-once}
 
 -- ---- the texts of the names that are declared

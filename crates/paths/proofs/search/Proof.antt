@@ -1,63 +1,66 @@
--- `paths::search` meets its contract. The invariant is `Filled`: the elements passed are the next clocks.
+-- `paths::search` meets its contract. The invariant is `State` of `specs/laws/Search.antt`, which each level keeps; when a level is empty, the arrays hold all distances and next clocks (`table-done`). The measure counts the clocks that do not stand in the queue before the level. Assumes nothing.
 use Prim.Native.Nat.{ℕ, _-_}
 use borrow.Author.Needs.{needs}
-use lib.ListN.{replicate, length-replicate}
+use borrow.Author.Tests.{not-true, not-false}
+use lib.ListN.{length-replicate}
+use mathlib.Core.Path.{sym, _∙_}
 use native.Mathlib.Omega.{arith}
 use Rattle.numbers.specs.Numbers.{clocks}
-use Rattle.paths.proofs.Table.{Filled, fill-start, fill-more, fill-all}
-use Rattle.paths.specs.Matrix.{graphOf}
-use Rattle.paths.specs.laws.Along.{next-below}
-use Rattle.paths.specs.laws.Graph.{graph-small}
+use Rattle.paths.specs.laws.Search.{State}
+use Rattle.paths.specs.laws.Graph.{Whole, whole-graph, graph-whole}
+use Rattle.paths.specs.Matrix.{held}
+use Rattle.paths.proofs.Table.{table-empty, table-done}
+use Rattle.paths.proofs.Levels.{start}
 use Rattle.paths.proofs.search.Statement.{statement}
 use Rattle.paths.proofs.search.Tie as tie
 
 abbrev Inv-loop : tie.InvT-loop
-Inv-loop matrix n target list count dist next₀ c₀ next c = Filled (graphOf matrix n target) next c
+Inv-loop matrix n target dist₀ next₀ queue₀ rest₀ left₀ from₀ end₀ k₀ dist next queue rest left from end k = State (held matrix n target) clocks dist next rest left queue from end k × Whole matrix n target
 
 abbrev μ-loop : tie.MeasureT-loop
-μ-loop matrix n target list count dist next₀ c₀ next c = clocks - c
+μ-loop matrix n target dist₀ next₀ queue₀ rest₀ left₀ from₀ end₀ k₀ dist next queue rest left from end k = n - from
 
-slice-aggregate-list-sources : tie.Need-slice-aggregate-list-sources Inv-loop μ-loop
-slice-aggregate-list-sources c = search needs
+name-selves-requires : tie.Need-name-selves-requires Inv-loop μ-loop
+name-selves-requires c κs = length-replicate {A = ℕ} clocks 0
 
-list-sources-requires : tie.Need-list-sources-requires Inv-loop μ-loop
-list-sources-requires c κs = length-replicate {A = ℕ} clocks 0
-
-slice-aggregate-distances : tie.Need-slice-aggregate-distances Inv-loop μ-loop
-slice-aggregate-distances c = search needs
-
-distances-requires : tie.Need-distances-requires Inv-loop μ-loop
-distances-requires c κs = (c .before .before .list-sources .ensures, search needs)
-
-loop-holds : tie.Need-loop-holds Inv-loop μ-loop
-loop-holds c = fill-start (graphOf (c .before .before .before .before .before .before .args .matrix .now) (c .before .before .before .before .before .before .args .n) (c .before .before .before .before .before .before .args .target)) (replicate clocks 0) (length-replicate {A = ℕ} clocks 0)
-
-slice-aggregate-next-from : tie.Need-slice-aggregate-next-from Inv-loop μ-loop
-slice-aggregate-next-from c = search needs
-
-next-from-requires : tie.Need-next-from-requires Inv-loop μ-loop
-next-from-requires c κs = ((c .before .before .before .before .before .before .before .list-sources .ensures, search needs), (c .before .before .before .before .distances .ensures, c .before .before .loop-test .taken))
-
-cast-next : tie.Need-cast-next Inv-loop μ-loop
-cast-next c = omega (arith, c .next-from .ensures, next-below (graphOf (c .before .before .before .before .before .before .before .before .before .before .before .args .matrix .now) (c .before .before .before .before .before .before .before .before .before .before .before .args .n) (c .before .before .before .before .before .before .before .before .before .before .before .args .target)) clocks (c .before .before .before .before .loop .c) (graph-small (c .before .before .before .before .before .before .before .before .before .before .before .args .matrix .now) (c .before .before .before .before .before .before .before .before .before .before .before .args .n) (c .before .before .before .before .before .before .before .before .before .before .before .args .target)) (c .before .before .before .loop-test .taken))
-
-mul-next : tie.Need-mul-next Inv-loop μ-loop
-mul-next c = search needs
-
-array-write-next : tie.Need-array-write-next Inv-loop μ-loop
-array-write-next c = search needs
-
-add-c : tie.Need-add-c Inv-loop μ-loop
-add-c c = search needs
-
-loop-less : tie.Need-loop-less Inv-loop μ-loop
-loop-less c = search needs
-
-loop-again : tie.Need-loop-again Inv-loop μ-loop
-loop-again c = fill-more _ (c .before .before .before .before .loop .inv) (c .before .before .before .loop-test .taken) (c .next-from .ensures)
+is-graph-requires : tie.Need-is-graph-requires Inv-loop μ-loop
+is-graph-requires c κs = search needs
 
 returns : tie.Need-returns Inv-loop μ-loop
-returns c = (c .before .before .distances .ensures, fill-all (c .before .loop .inv) (c .loop-test .left))
+returns c = table-empty _ _ _ (sym (c .before .is-graph .ensures) ∙ not-true _ (c .if1 .taken)) (c .before .before .name-selves .ensures)
+
+others-requires : tie.Need-others-requires Inv-loop μ-loop
+others-requires c κs = let w = graph-whole _ _ _ (sym (c .before .before .is-graph .ensures) ∙ not-false _ (c .before .if1 .left)) in (w, length-replicate {A = ℕ} clocks 0)
+
+mul-dist : tie.Need-mul-dist Inv-loop μ-loop
+mul-dist c = let w = graph-whole _ _ _ (sym (c .before .before .before .is-graph .ensures) ∙ not-false _ (c .before .before .if1 .left)) in omega arith
+
+array-write-dist : tie.Need-array-write-dist Inv-loop μ-loop
+array-write-dist c = let w = graph-whole _ _ _ (sym (c .before .before .before .is-graph .ensures) ∙ not-false _ (c .before .before .if1 .left)) in omega arith
+
+cast-queue : tie.Need-cast-queue Inv-loop μ-loop
+cast-queue c = let w = graph-whole _ _ _ (sym (c .before .before .before .is-graph .ensures) ∙ not-false _ (c .before .before .if1 .left)) in omega arith
+
+array-write-queue : tie.Need-array-write-queue Inv-loop μ-loop
+array-write-queue c = search needs
+
+loop-holds : tie.Need-loop-holds Inv-loop μ-loop
+loop-holds c = let w = graph-whole _ _ _ (sym (c .before .before .before .is-graph .ensures) ∙ not-false _ (c .before .before .if1 .left)) in (start _ clocks (omega arith) (w .small) (w .goal) (c .before .before .before .before .name-selves .ensures) (c .others .ensures .1) (c .others .ensures .2) (c .others .ensures .0), w)
+
+level-requires : tie.Need-level-requires Inv-loop μ-loop
+level-requires c κs = ((c .before .before .before .before .before .loop .inv .1, c .before .before .before .before .loop-test .taken), c .before .before .before .before .before .loop .inv .0)
+
+add-k : tie.Need-add-k Inv-loop μ-loop
+add-k c = omega (arith, c .before .before .before .before .before .before .loop .inv .0 .low, c .before .before .before .before .before .loop-test .taken, c .before .before .before .before .before .before .loop .inv .0 .few, c .before .before .before .before .before .before .loop .inv .1 .small)
+
+loop-less : tie.Need-loop-less Inv-loop μ-loop
+loop-less c = omega (arith, c .before .before .before .before .before .loop-test .taken, c .before .before .before .before .before .before .loop .inv .0 .few)
+
+loop-again : tie.Need-loop-again Inv-loop μ-loop
+loop-again c = (c .level .ensures, c .before .before .before .before .before .before .loop .inv .1)
+
+returns-2 : tie.Need-returns-2 Inv-loop μ-loop
+returns-2 c = table-done _ _ _ (whole-graph _ _ _ (c .before .loop .inv .1)) (c .before .loop .inv .0) (c .loop-test .left)
 
 pub search-spec : {M : Type 1} → statement M
 search-spec =
@@ -65,17 +68,17 @@ search-spec =
     (tie.spec
     Inv-loop
     μ-loop
-    slice-aggregate-list-sources
-    list-sources-requires
-    slice-aggregate-distances
-    distances-requires
+    name-selves-requires
+    is-graph-requires
+    returns
+    others-requires
+    mul-dist
+    array-write-dist
+    cast-queue
+    array-write-queue
     loop-holds
-    slice-aggregate-next-from
-    next-from-requires
-    cast-next
-    mul-next
-    array-write-next
-    add-c
+    level-requires
+    add-k
     loop-less
     loop-again
-    returns)
+    returns-2)

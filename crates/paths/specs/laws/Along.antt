@@ -30,7 +30,7 @@ module _ (g : Net) where
   path-end c f = at-goal g _ (omega (arith, trace-dist g (dist g c) c refl f (dist g c) (omega arith))) (omega arith)
 
   -- a next clock is a clock, or the clock itself
-  pub next-below : (b c : ℕ) → g .size ≤ b → c < b → next g c < b
+  next-below : (b c : ℕ) → g .size ≤ b → c < b → next g c < b
   next-below b c h l = go (dist g c) refl
     where
       up : (k : ℕ) → dist g c ≡ suc k → Dec (suc k < g .far) → next g c < b

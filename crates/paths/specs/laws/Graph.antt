@@ -1,17 +1,14 @@
 -- The graph of a matrix, by cases.
 use Prim.Native.Nat.{ℕ, _*_, _≤_, _<_, zero-le}
-use native.Mathlib.Omega.{arith}
 use mathlib.Core.Bool.{Bool, true, false, cond, _&&_}
-use mathlib.Core.Path.{_≡_, refl, ap}
+use mathlib.Core.Path.{_≡_, refl}
 use mathlib.Core.List.{List}
 use lib.Dec.{ltb, leb, eqb}
 use lib.ListN.{length}
 use borrow.Author.Tests.{eqb-true, leb-true, ltb-true, eq-eqb, le-leb, lt-ltb}
 use Rattle.numbers.specs.Numbers.{clocks}
-use Rattle.paths.specs.Paths.{Net, dist}
 use Rattle.paths.specs.Matrix.{far, isGraph, held, empty, graphOf}
 use Rattle.paths.specs.laws.Least.{and-left, and-right, and-both}
-use Rattle.paths.specs.laws.Reach.{outside}
 
 -- what `isGraph` tests
 pub record Whole (m : List ℕ) (n t : ℕ) : Type 0 where
@@ -51,11 +48,3 @@ module _ (m : List ℕ) (n t : ℕ) where
       go : (b : Bool) → isGraph m n t ≡ b → graphOf m n t .size ≤ clocks
       go true e = rw (graph-held e) (graph-whole e .small)
       go false e = rw (graph-empty e) zero-le
-
-  -- a clock with a distance is a clock of a matrix
-  pub graph-near : (c : ℕ) → dist (graphOf m n t) c < far → isGraph m n t ≡ true
-  graph-near c f = go (isGraph m n t) refl
-    where
-      go : (b : Bool) → isGraph m n t ≡ b → b ≡ true
-      go true e = refl
-      go false e = absurd (omega (arith, outside empty c zero-le, ap (λ (g : Net). dist g c) (graph-empty e)))

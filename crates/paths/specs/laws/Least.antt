@@ -58,10 +58,6 @@ least-from p m k h none = go (decLt (least p m) k)
     go (yes l) = absurd (true≢false (sym (least-has p m (omega arith)) ∙ none (least p m) l))
     go (no l) = omega arith
 
--- what has p, with nothing before it that has p
-pub least-is : (p : ℕ → Bool) (m k : ℕ) → k ≤ m → p k ≡ true → ((i : ℕ) → i < k → p i ≡ false) → least p m ≡ k
-least-is p m k h e none = omega (arith, least-to p m k e, least-from p m k h none)
-
 -- nothing has p
 pub least-none : (p : ℕ → Bool) (m : ℕ) → ((i : ℕ) → i < m → p i ≡ false) → least p m ≡ m
 least-none p m none = omega (arith, least-le p m, least-from p m m (omega arith) none)

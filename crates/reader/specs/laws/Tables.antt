@@ -16,9 +16,9 @@ use Rattle.outline.specs.Outline.{rootFrom, rootAt}
 use Rattle.index.specs.Index.{indexOf, colOf, entriesIn, listed}
 use Rattle.survey.specs.Survey.{indexFrom}
 use Rattle.reader.specs.Reader.{tableOf, lookupsOf}
-use Rattle.named.specs.Prints.{pathPrints}
+use Rattle.prints.specs.Prints.{pathPrints}
 use Rattle.named.specs.Named.{declaredIn, distinctAt, namesIn, nameTable, namePrint, printTable}
-use Rattle.finds.specs.Finds.{citedBy, citesOf, traceCited, fromOne, ofEntries, lookups}
+use Rattle.finds.specs.Finds.{citedBy, citesOf, traceCited, fromOne, ofEntries, lookups, entryCited}
 use Rattle.listed.specs.declared.PathFacts.{PathFacts}
 
 abbrev pub zeros : List ℕ
@@ -64,7 +64,7 @@ unfolding printTable namePrint pick
 zeros-unprinted s = ap (map (namePrint s)) (zeros-unnamed s)
 
 pub zeros-cite : (s : Text) → citesOf s zeros ≡ replicate 32 32
-unfolding citesOf citedBy colOf listed pick
+unfolding citesOf entryCited colOf listed pick
 zeros-cite s = refl
 
 zeros-cited : (s : Text) → map fromOne (citesOf s zeros) ≡ replicate 32 0
@@ -77,7 +77,7 @@ unfolding ofEntries entriesIn listed pick
 zeros-pathless s = refl
 
 zeros-untraced : (s : Text) → fromOne (traceCited s zeros) ≡ 0
-unfolding fromOne traceCited pick
+unfolding fromOne entryCited pick
 zeros-untraced s = refl
 
 pub zeros-lookups : (s : Text) → tableOf s ≡ zeros → lookupsOf s ≡ replicate 129 0
@@ -87,7 +87,7 @@ zeros-lookups s e = ap (lookups s) e ∙ (λ t. zeros-unnamed s t ++ (zeros-unpr
 -- ---- and of their paths nothing is known
 
 pub zeros-facts : (s : Text) {ix : List ℕ} {f : PathFacts} → ix ≡ zeros → f .cites ≡ replicate 32 32 → f .trace ≡ 32 → Facts s ix f
-unfolding ofEntries entriesIn listed traceCited pick
+unfolding ofEntries entriesIn listed entryCited pick
 zeros-facts s {ix} {f} e c t = record {
   cites-right = c ∙ sym (ap (citesOf s) e ∙ zeros-cite s);
   trace-right = t ∙ sym (ap (traceCited s) e);

@@ -1,17 +1,17 @@
 -- `survey::member` meets its contract: the name is read, its line is told by it, and the value behind the colon fits the line.
 -- Assumes nothing.
-use Rattle.table.specs.laws.Looking.{line-gives}
 use mathlib.Core.Path.{refl}
-use borrow.Author.Needs.{needs}
+use Rattle.table.specs.laws.Looking.{line-gives}
 use Rattle.survey.proofs.Stepping.{entered}
+use borrow.Author.Needs.{needs}
 use Rattle.survey.proofs.member.Statement.{statement}
 use Rattle.survey.proofs.member.Tie as tie
 
-name-requires : tie.Need-name-requires
-name-requires c κs = search needs
+name-end-requires : tie.Need-name-end-requires
+name-end-requires c κs = search needs
 
-enum-known-j : tie.Need-enum-known-j
-enum-known-j c = search needs
+returns : tie.Need-returns
+returns c = λ n. absurd (n refl)
 
 line-of-requires : tie.Need-line-of-requires
 line-of-requires c κs = tt
@@ -25,33 +25,17 @@ value-kind-requires c κs = search needs
 passed-requires : tie.Need-passed-requires
 passed-requires c κs = search needs
 
-enum-told : tie.Need-enum-told
-enum-told c = search needs
-
-enum-told-2 : tie.Need-enum-told-2
-enum-told-2 c = search needs
-
-returns : tie.Need-returns
-returns c = λ n. entered _ _ _ _ (c .before .before .before .before .before .before .before .name .ensures) (c .before .before .before .before .before .j .given .1) (line-gives (c .before .before .before .line-of .ensures)) (c .before .before .blank .ensures) (c .before .value-kind .ensures) (c .passed .ensures n)
-
 returns-2 : tie.Need-returns-2
-returns-2 c = λ n. absurd (n refl)
-
-returns-3 : tie.Need-returns-3
-returns-3 c = λ n. absurd (n refl)
+returns-2 c = λ n. entered _ _ _ _ (c .before .before .before .before .before .name-end .ensures (c .before .before .before .before .if1 .left)) (line-gives (c .before .before .before .line-of .ensures)) (c .before .before .blank .ensures) (c .before .value-kind .ensures) (c .passed .ensures n)
 
 pub member-spec : {M : Type 1} → statement M
 member-spec =
     tie.close
     (tie.spec
-    name-requires
-    enum-known-j
+    name-end-requires
+    returns
     line-of-requires
     blank-requires
     value-kind-requires
     passed-requires
-    enum-told
-    enum-told-2
-    returns
-    returns-2
-    returns-3)
+    returns-2)

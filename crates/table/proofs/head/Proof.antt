@@ -42,8 +42,8 @@ shared-slice-read-point c = search needs
 point-requires : tie.Need-point-requires
 point-requires c κs = search needs
 
-add-t17 : tie.Need-add-t17
-add-t17 c = search needs
+add-t18 : tie.Need-add-t18
+add-t18 c = search needs
 
 returns-4 : tie.Need-returns-4
 returns-4 c = heads-plain _ _ (sym (peek-at _ _ (omega arith)) ∙ c .before .before .before .before .before .if3 .left) (omega arith) (c .point .ensures) (c .before .before .before .plain .ensures) (c .before .before .if4 .taken)
@@ -90,7 +90,7 @@ head-spec =
     add-point
     shared-slice-read-point
     point-requires
-    add-t17
+    add-t18
     returns-4
     add-if5
     shared-slice-read-if5

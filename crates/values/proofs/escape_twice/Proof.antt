@@ -6,7 +6,7 @@ use Rattle.values.proofs.escape_twice.Statement.{statement}
 use Rattle.values.proofs.escape_twice.Tie as tie
 
 short-twice-requires : tie.Need-short-twice-requires
-short-twice-requires c κs = c .before .pre
+short-twice-requires c κs = search needs
 
 returns : tie.Need-returns
 returns c = c .before .short-twice .ensures

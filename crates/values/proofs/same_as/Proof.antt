@@ -1,10 +1,10 @@
--- `values::same_as` meets its contract: the string is the text where it ends with the text, and blocks of plain bytes that are the same change nothing in where it ends.
+-- `values::same_as` meets its contract: the string is the text where what follows its first quote is, which a short text is told by where that ends in it, and a longer one by `same_long`.
 -- Assumes nothing.
 use mathlib.Core.Path.{sym, _∙_}
 use native.Mathlib.Omega.{arith}
 use borrow.Author.Needs.{needs}
 use Rattle.text.specs.laws.Peek.{found-in}
-use Rattle.values.proofs.Compare.{same-none, same-ends}
+use Rattle.values.proofs.Compare.{same-none, same-start, same-ends}
 use Rattle.values.proofs.same_as.Statement.{statement}
 use Rattle.values.proofs.same_as.Tie as tie
 
@@ -14,23 +14,23 @@ byte-requires c κs = search needs
 returns : tie.Need-returns
 returns c = same-none _ _ _ (λ q. c .if1 .taken (c .before .byte .ensures ∙ q))
 
-add-alike-blocks : tie.Need-add-alike-blocks
-add-alike-blocks c = omega (arith, found-in _ _ (c .before .byte .ensures) (c .if1 .left) tt)
+add-begun : tie.Need-add-begun
+add-begun c = omega (arith, found-in _ _ (c .before .before .byte .ensures) (c .before .if1 .left) tt)
 
-alike-blocks-requires : tie.Need-alike-blocks-requires
-alike-blocks-requires c κs = (omega (arith, found-in _ _ (c .before .byte .ensures) (c .if1 .left) tt), omega arith)
-
-add-begun-rest : tie.Need-add-begun-rest
-add-begun-rest c = search needs
-
-add-begun-rest-2 : tie.Need-add-begun-rest-2
-add-begun-rest-2 c = search needs
-
-begun-rest-requires : tie.Need-begun-rest-requires
-begun-rest-requires c κs = search needs
+begun-requires : tie.Need-begun-requires
+begun-requires c κs = search needs
 
 returns-2 : tie.Need-returns-2
-returns-2 c = same-ends _ _ _ (sym (c .before .before .before .byte .ensures) ∙ c .before .before .if1 .left) (c .before .alike-blocks .ensures) (c .begun-rest .ensures)
+returns-2 c = same-ends _ _ (c .begun .ensures) ∙ same-start _ _ _ (sym (c .before .before .before .byte .ensures) ∙ c .before .before .if1 .left)
+
+add-same-long : tie.Need-add-same-long
+add-same-long c = omega (arith, found-in _ _ (c .before .before .byte .ensures) (c .before .if1 .left) tt)
+
+same-long-requires : tie.Need-same-long-requires
+same-long-requires c κs = omega (arith, found-in _ _ (c .before .before .byte .ensures) (c .before .if1 .left) tt)
+
+returns-3 : tie.Need-returns-3
+returns-3 c = c .same-long .ensures ∙ same-start _ _ _ (sym (c .before .before .before .byte .ensures) ∙ c .before .before .if1 .left)
 
 pub same-as-spec : {M : Type 1} → statement M
 same-as-spec =
@@ -38,9 +38,9 @@ same-as-spec =
     (tie.spec
     byte-requires
     returns
-    add-alike-blocks
-    alike-blocks-requires
-    add-begun-rest
-    add-begun-rest-2
-    begun-rest-requires
-    returns-2)
+    add-begun
+    begun-requires
+    returns-2
+    add-same-long
+    same-long-requires
+    returns-3)
