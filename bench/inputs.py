@@ -201,6 +201,7 @@ INPUTS['files-escaped'] = ('32 related files, paths of escapes', lambda: related
 INPUTS['files-numbered'] = ('32 related files, paths of long escapes', lambda: related_files(lambda i: 'é' * 126 + f'{i:02}'))
 INPUTS['files-two-ways'] = ('32 related files, paths escaped in two ways', two_ways)
 INPUTS['names-escaped'] = ('32 related files, machine names of escapes', lambda: related_files(lambda i: f'{i:02}', name=lambda i: '\t' * 62 + f'{i % 31:02}'))
+INPUTS['names-numbered'] = ('32 related files, machine names of long escapes', lambda: related_files(lambda i: f'{i:02}', name=lambda i: '\x01' * 62 + f'{i % 31:02}'))
 INPUTS['snapshots'] = ('256 snapshots of 32 files, 32 events', few_events)
 INPUTS['long-ways'] = ('paths of 191 pairs', long_ways)
 INPUTS['worst'] = ('the worst found: paths of 185 pairs, manifest of 64 KiB', worst)
