@@ -1,7 +1,7 @@
 """The inputs of the timings, the same in every run.
 
     inputs.py FOLDER          writes NAME.json (absent: no manifest), NAME.bits and the list of names
-    inputs.py table < TIMES   prints the table of the lines that `time inputs` printed
+    inputs.py table < TIMES   prints the table of the lines that `time input` printed
     inputs.py page KIND CODE < SECTION    writes docs/TIMINGS.md, with this section of a kind of machine and those of other kinds as they were; one that was
                                           measured on other code than CODE says so
 
@@ -135,6 +135,25 @@ def two_ways():
     return re.sub(rb'("file":")((?:\\t)+)', lambda m: m[1] + m[2].replace(b'\\t', b'\\u0009'), text), bits
 
 
+def split_files(name, splits, citing=0):
+    """Split files, each with 31 items of the same names, every other one in the reverse order; and files that are related to the last item of one of them."""
+    items = [{'id': k, 'name': name(k)} for k in range(31)]
+    turned = [{'id': k, 'name': name(30 - k)} for k in range(31)]
+    entries = [{'path': f'{i:02}', 'machines': turned if i % 2 else items} for i in range(splits)]
+    for i in range(splits, splits + citing):
+        there = {'file': f'{i % splits:02}', 'machine': entries[i % splits]['machines'][30]['name'], 'clock': 'MONOTONIC'}
+        entries.append({'path': f'{i:02}', 'clocks': {'clock': 'BOOTTIME', 'sync_to': there, 'offset_ns': 250000000}})
+    listed = [File(0, BOOTTIME, entry['path'].encode()) for entry in entries] + [Source(i % len(entries), i // len(entries)) for i in range(32)]
+    return manifest({'version': 1, 'files': entries}), sheet(listed, [Event(i, BOOTTIME, SECOND) for i in range(32)])
+
+
+def escaped_clocks():
+    """32 related files, whose clocks' names are written with escapes."""
+    text, bits = related_files(lambda i: f'{i:02}')
+    name = ''.join(f'\\u{ord(letter):04x}' for letter in 'MONOTONIC_RAW').encode()
+    return text.replace(b'"BOOTTIME"', b'"' + name + b'"').replace(b'"MONOTONIC"', b'"' + name + b'"'), bits
+
+
 def few_events():
     """No manifest, and as many snapshots as there may be, shared by 32 files, for one event of each."""
     listed = [File(0, BOOTTIME, f'{i:02}'.encode()) for i in range(32)] + [Source(i, 0) for i in range(32)]
@@ -194,6 +213,7 @@ INPUTS['manifest-items'] = ('manifest of 64 KiB, 32 entries with 32 items', many
 INPUTS['manifest-wide'] = ('manifest of 64 KiB, a text of two-byte characters', lambda: crammed(b'"version":1,', b'"comment":"', 'é'.encode(), b'",'))
 INPUTS['manifest-short'] = ('manifest of 64 KiB, short texts of two-byte characters', lambda: crammed(b'"version":1,', b'"comment":["",', '"é",'.encode(), b'""],'))
 INPUTS['manifest-near'] = ('manifest of 64 KiB, names that begin as known ones do', lambda: crammed(b'"sync_to":{', b'', b'"m":0,', b''))
+INPUTS['manifest-escaped'] = ('manifest of 64 KiB, unknown names of escapes', lambda: crammed(b'"path":"phone.pftrace",', b'', b'"m\\u0061":0,', b''))
 INPUTS['files-short'] = ('32 related files, short paths', lambda: related_files(lambda i: f'{i:02}.pftrace'))
 INPUTS['files-long'] = ('32 related files, paths of 250 bytes', lambda: related_files(lambda i: 'lab/' * 60 + f'{i:02}.pftrace'))
 INPUTS['files-wide'] = ('32 related files, paths of two-byte characters', lambda: related_files(lambda i: 'é' * 126 + f'{i:02}', False))
@@ -202,6 +222,9 @@ INPUTS['files-numbered'] = ('32 related files, paths of long escapes', lambda: r
 INPUTS['files-two-ways'] = ('32 related files, paths escaped in two ways', two_ways)
 INPUTS['names-escaped'] = ('32 related files, machine names of escapes', lambda: related_files(lambda i: f'{i:02}', name=lambda i: '\t' * 62 + f'{i % 31:02}'))
 INPUTS['names-numbered'] = ('32 related files, machine names of long escapes', lambda: related_files(lambda i: f'{i:02}', name=lambda i: '\x01' * 62 + f'{i % 31:02}'))
+INPUTS['names-split'] = ('two split files that 30 others cite, names of long escapes', lambda: split_files(lambda k: '\x01' * 62 + f'{k:02}', 2, 30))
+INPUTS['names-shared'] = ('five split files with the same names of long escapes', lambda: split_files(lambda k: 'é' * 31 + f'{k:02}', 5))
+INPUTS['clocks-escaped'] = ('32 related files, clock names of escapes', escaped_clocks)
 INPUTS['snapshots'] = ('256 snapshots of 32 files, 32 events', few_events)
 INPUTS['long-ways'] = ('paths of 191 pairs', long_ways)
 INPUTS['worst'] = ('the worst found: paths of 185 pairs, manifest of 64 KiB', worst)

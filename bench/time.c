@@ -1,7 +1,7 @@
-/* Times the proved merge beside the plain one, on the same inputs in one run.
+/* Times the proved merge beside the plain one, on one input in one run.
 
-     time inputs FOLDER ROUNDS MILLISECONDS    a line for each input of FOLDER/list: name, events, nanoseconds of a proved and of a plain call
-     time batch proved|plain                   answers frames from standard input as the program batch does (tests/second/frames.py)
+     time input FOLDER NAME ROUNDS MILLISECONDS    a line: name, events, nanoseconds of a proved and of a plain call
+     time batch proved|plain                       answers frames from standard input as the program batch does (tests/second/frames.py)
 
    Before an input is timed both are called on memory full of other bytes, and every byte must come out the same. The rounds of the
    two alternate, and the best one counts, so that other work on the machine weighs on both alike. */
@@ -110,26 +110,12 @@ static void measure(const char *name, int rounds, double wanted) {
     fflush(stdout);
 }
 
-static int inputs(const char *folder, int rounds, double wanted) {
-    char path[4096], name[256];
-    FILE *list;
-    int failed = 0;
-    snprintf(path, sizeof path, "%s/list", folder);
-    list = fopen(path, "r");
-    if (!list) {
-        printf("%s can't be read\n", path);
-        return 1;
-    }
-    while (fscanf(list, "%255s", name) == 1) {
-        given.manifest_len = content(folder, name, "json", given.manifest);
-        given.sheet_len = content(folder, name, "bits", given.sheet);
-        if (agree(name))
-            measure(name, rounds, wanted);
-        else
-            failed = 1;
-    }
-    fclose(list);
-    return failed;
+static int input(const char *folder, const char *name, int rounds, double wanted) {
+    given.manifest_len = content(folder, name, "json", given.manifest);
+    given.sheet_len = content(folder, name, "bits", given.sheet);
+    if (!agree(name)) return 1;
+    measure(name, rounds, wanted);
+    return 0;
 }
 
 /* A frame's bytes: 1 if there is one, cut to what is known to be too long. */
@@ -177,8 +163,8 @@ static int batch(call *f) {
 }
 
 int main(int words, char **word) {
-    if (words == 5 && !strcmp(word[1], "inputs")) return inputs(word[2], atoi(word[3]), atof(word[4]) * 1e6);
+    if (words == 6 && !strcmp(word[1], "input")) return input(word[2], word[3], atoi(word[4]), atof(word[5]) * 1e6);
     if (words == 3 && !strcmp(word[1], "batch")) return batch(strcmp(word[2], "plain") ? proved : plain);
-    fprintf(stderr, "time inputs FOLDER ROUNDS MILLISECONDS | time batch proved|plain\n");
+    fprintf(stderr, "time input FOLDER NAME ROUNDS MILLISECONDS | time batch proved|plain\n");
     return 2;
 }

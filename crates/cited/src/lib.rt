@@ -1,21 +1,30 @@
 // Refusals 19 to 24: cited files and machines, offsets, and clocks related to themselves.
 ghost use mathlib.Core.Path.{_≡_};
+ghost use mathlib.Core.Bool.{true};
 ghost use Prim.Native.Nat.{_<_};
+ghost use lib.Dec.{eqb};
+ghost use Rattle.text.specs.Reading.{Text, pick};
 ghost use Rattle.json.specs.Tree.{same};
 ghost use Rattle.manifest.specs.Rows.{holds, any, declared};
-ghost use Rattle.manifest.specs.Rules.{applies, first, not-declared, no-integer, too-far};
+ghost use Rattle.manifest.specs.Rules.{refusal-13-empty-machine-name};
+ghost use Rattle.manifest.specs.Rules.{applies, first, not-declared, no-integer, too-far, same-machine, same-clock};
 ghost use Rattle.manifest.specs.Rules.{refusal-19-file-names-no-entry, refusal-20-no-machine-of-a-split-file, refusal-21-machine-not-declared};
 ghost use Rattle.manifest.specs.Rules.{refusal-22-offset-not-an-integer, refusal-23-offset-out-of-range, refusal-24-clock-related-to-itself};
-ghost use Rattle.index.specs.Index.{textAt, textCell, offsetCell, entryAt, manifestOf};
+ghost use Rattle.index.specs.Index.{textAt, textCell, offsetCell, entryAt, manifestOf, whoseAt};
 ghost use Rattle.prints.specs.Prints.{pathPrints};
-ghost use Rattle.finds.specs.Finds.{citesOf, traceCited};
-ghost use Rattle.sizes.specs.Sizes.{broken-paths};
+ghost use Rattle.finds.specs.Finds.{citesOf, traceCited, baseAt};
+ghost use Rattle.sizes.specs.Sizes.{broken-paths, broken-names};
+ghost use Rattle.listed.specs.Settled.{settledIn};
 ghost use Rattle.once.specs.Once.{path-twice};
 ghost use Rattle.cited.specs.Cited.{cited-rules};
+ghost use Rattle.cited.specs.Itself.{ownClock, otherClock};
 ghost use Rattle.cited.specs.laws.Within.{outsideOf, withinAt};
 ghost use Rattle.cited.specs.laws.Declared.{machineIs};
 ghost use Rattle.cited.specs.laws.Rule20.{splitAt, ownless, unnamed};
 ghost use Rattle.cited.specs.laws.Rule21.{strangeIn};
+ghost use Rattle.cited.specs.laws.Apart.{Apart, Among};
+ghost use Rattle.cited.specs.laws.Clocks.{ownShared, otherShared};
+use listed::NameFacts;
 use listed::PathFacts;
 
 // 19 in `trace_time`. (`trace` tells, here and below, which entry its `file` names.)
@@ -178,11 +187,35 @@ fn declares(s: &[u8], ix: &[usize; 2470], e: usize, p: usize) -> bool
     false
 }
 
-// A machine is named at p, and entry e does not declare it.
+// The name at p is one that entry e declares, at the very same position. (Names that are the same stand at one place, if the index is settled: then no text is read)
+fn stands_in(ix: &[usize; 2470], e: usize, p: usize) -> bool
+    requires { ⌜ (p ≡ 0 → ⊥) ⌝ }
+    ensures { λ r. ⌜ ((s : Text) → r ≡ true → any (same (textAt s p)) (declared (entryAt s (now (ix .entry)) e)) ≡ true) ⌝ }
+{
+    if index::col(ix, e, 1) != 0 {
+        if index::col(ix, e, 2) == p {
+            return true;
+        }
+    }
+    let n = index::items(ix, e);
+    let mut k: usize = 0;
+    while k < n {
+        if index::item(ix, e, k, 1) == p {
+            return true;
+        }
+        k += 1;
+    }
+    false
+}
+
+// A machine is named at p, and entry e does not declare it. Texts are compared only where no declared name stands at p itself.
 fn is_undeclared(s: &[u8], ix: &[usize; 2470], e: usize, p: usize) -> bool
     ensures { λ r. ⌜ r ≡ holds (not-declared (entryAt (now (s .entry)) (now (ix .entry)) e)) (textCell (now (s .entry)) p) ⌝ }
 {
     if p == 0 {
+        return false;
+    }
+    if stands_in(ix, e, p) {
         return false;
     }
     let declared = declares(s, ix, e, p);
@@ -337,9 +370,97 @@ fn refusal_23_offset_out_of_range(s: &[u8], ix: &[usize; 2470]) -> bool
     false
 }
 
+// The position p is among those of different names.
+fn is_first(firsts: &[usize; 32], p: usize) -> bool
+    ensures { λ r. ⌜ (r ≡ true → Among (now (firsts .entry)) p) ⌝ }
+{
+    // (a slice tells its length)
+    let held: &[usize] = firsts;
+    let mut k: usize = 0;
+    while k < 32 {
+        if held[k] == p {
+            return true;
+        }
+        k += 1;
+    }
+    false
+}
+
+// The machines whose names stand at p and q are one. 0 stands for the host, which no name names. (`firsts` has, here and below, positions of different names: two of them need not be read.)
+fn same_machine(s: &[u8], p: usize, q: usize, firsts: &[usize; 32]) -> bool
+    requires { ⌜ Apart (now s) (now firsts) ⌝ }
+    ensures { λ r. ⌜ r ≡ same-machine (whoseAt (now (s .entry)) p) (whoseAt (now (s .entry)) q) ⌝ }
+{
+    if p == 0 {
+        return q == 0;
+    }
+    if q == 0 {
+        return false;
+    }
+    if p == q {
+        return true;
+    }
+    if is_first(firsts, p) {
+        if is_first(firsts, q) {
+            return false;
+        }
+    }
+    index::same_at(s, p, q)
+}
+
+// Where the name of a cited machine stands, or else that of the base machine of entry i's file.
+fn machine_or_base(s: &[u8], ix: &[usize; 2470], p: usize, i: usize) -> usize
+    ensures { λ r. ⌜ r ≡ pick (eqb p 0) (baseAt (now (s .entry)) (now (ix .entry)) i) p ⌝ }
+{
+    if p == 0 {
+        return finds::base_at(s, ix, i);
+    }
+    p
+}
+
+// Entry i relates a named clock to a named clock for the file of entry e, and the two are one.
+fn same_shared(s: &[u8], ix: &[usize; 2470], i: usize, e: usize, firsts: &[usize; 32]) -> bool
+    requires { ⌜ Apart (now s) (now firsts) ⌝ }
+    ensures { λ r. ⌜ r ≡ same-clock (ownShared (now (s .entry)) (now (ix .entry)) i) (otherShared (now (s .entry)) (now (ix .entry)) i e) ⌝ }
+{
+    let own_machine = machine_or_base(s, ix, index::col(ix, i, 6), i);
+    let other_machine = machine_or_base(s, ix, index::col(ix, i, 9), e);
+    if !same_machine(s, own_machine, other_machine, firsts) {
+        return false;
+    }
+    let own = outline::domain(s, index::col(ix, i, 5));
+    let other = outline::domain(s, index::col(ix, i, 10));
+    own == other
+}
+
+// The clock that entry i relates is the one that it relates it to, for the file of entry e. Without a name it is the file's private clock.
+fn same_clocks(s: &[u8], ix: &[usize; 2470], i: usize, e: usize, firsts: &[usize; 32]) -> bool
+    requires { ⌜ Apart (now s) (now firsts) ⌝ }
+    ensures { λ r. ⌜ r ≡ same-clock (ownClock (now (s .entry)) (now (ix .entry)) i) (otherClock (now (s .entry)) (now (ix .entry)) i e) ⌝ }
+{
+    let own = index::col(ix, i, 5);
+    let other = index::col(ix, i, 10);
+    if own == 0 {
+        if other == 0 {
+            return i == e;
+        }
+        return false;
+    }
+    if other == 0 {
+        return false;
+    }
+    same_shared(s, ix, i, e, firsts)
+}
+
 // Entry i relates a clock to itself. Without `clocks`, `sync_to`, its `file`, or an entry of that path it relates none: the table of what each entry cites has 32 then.
-fn itself_in(s: &[u8], ix: &[usize; 2470], i: usize, cites: &[usize; 32]) -> bool
-    requires { ⌜ (i < 32) × (now cites ≡ citesOf (now s) (now ix)) ⌝ }
+fn itself_in(
+    s: &[u8],
+    ix: &[usize; 2470],
+    i: usize,
+    cites: &[usize; 32],
+    firsts: &[usize; 32],
+) -> bool
+    requires { ⌜ (i < 32) × (now cites ≡ citesOf (now s) (now ix)) × Apart (now s) (now firsts) ⌝ }
     ensures { λ r. ⌜ r ≡ withinAt refusal-24-clock-related-to-itself (now (s .entry)) (now (ix .entry)) i ⌝ }
 {
     if index::col(ix, i, 4) == 0 {
@@ -350,20 +471,25 @@ fn itself_in(s: &[u8], ix: &[usize; 2470], i: usize, cites: &[usize; 32]) -> boo
     }
     let reference = cites[i];
     if reference < 32 {
-        return itself::same_clocks(s, ix, i, reference);
+        return same_clocks(s, ix, i, reference, firsts);
     }
     false
 }
 
 // 24: some entry relates a clock to itself.
-fn refusal_24_clock_related_to_itself(s: &[u8], ix: &[usize; 2470], cites: &[usize; 32]) -> bool
-    requires { ⌜ now cites ≡ citesOf (now s) (now ix) ⌝ }
+fn refusal_24_clock_related_to_itself(
+    s: &[u8],
+    ix: &[usize; 2470],
+    cites: &[usize; 32],
+    firsts: &[usize; 32],
+) -> bool
+    requires { ⌜ (now cites ≡ citesOf (now s) (now ix)) × Apart (now s) (now firsts) ⌝ }
     ensures { λ r. ⌜ r ≡ applies refusal-24-clock-related-to-itself (manifestOf (now (s .entry)) (now (ix .entry))) ⌝ }
 {
     let n = index::entries(ix);
     let mut i: usize = 0;
     while i < n {
-        if itself_in(s, ix, i, cites) {
+        if itself_in(s, ix, i, cites, firsts) {
             return true;
         }
         i += 1;
@@ -371,15 +497,22 @@ fn refusal_24_clock_related_to_itself(s: &[u8], ix: &[usize; 2470], cites: &[usi
     false
 }
 
-// What is judged: the number of the first of these rules that applies, and what is known of the paths, by which others are judged.
+// What is judged: the number of the first of these rules that applies, and what is known of the paths and the names, by which others are judged.
 pub struct Judged {
     pub refusal: u8,
     pub paths: PathFacts,
+    pub names: NameFacts,
 }
 
 // The number of the first of these rules that applies to the manifest; 0 if none does.
-fn first_rule(s: &[u8], ix: &[usize; 2470], cites: &[usize; 32], trace: usize) -> u8
-    requires { ⌜ (now cites ≡ citesOf (now s) (now ix)) × (trace ≡ traceCited (now s) (now ix)) ⌝ }
+fn first_rule(
+    s: &[u8],
+    ix: &[usize; 2470],
+    cites: &[usize; 32],
+    trace: usize,
+    firsts: &[usize; 32],
+) -> u8
+    requires { ⌜ (now cites ≡ citesOf (now s) (now ix)) × (trace ≡ traceCited (now s) (now ix)) × Apart (now s) (now firsts) ⌝ }
     ensures { λ r. ⌜ r ≡ first cited-rules (manifestOf (now (s .entry)) (now (ix .entry))) ⌝ }
 {
     if refusal_19_file_names_no_entry(s, ix, cites, trace) {
@@ -397,23 +530,32 @@ fn first_rule(s: &[u8], ix: &[usize; 2470], cites: &[usize; 32], trace: usize) -
     if refusal_23_offset_out_of_range(s, ix) {
         return 23;
     }
-    if refusal_24_clock_related_to_itself(s, ix, cites) {
+    if refusal_24_clock_related_to_itself(s, ix, cites, firsts) {
         return 24;
     }
     0
 }
 
-// The same, with what is known of the paths: they are read once, here.
-pub fn refusal(s: &[u8], ix: &[usize; 2470]) -> Judged
-    ensures refusal { λ r. ⌜ r .refusal ≡ first cited-rules (manifestOf (now (s .entry)) (now (ix .entry))) ⌝ }
-    ensures cites { λ r. ⌜ r .paths .cites ≡ citesOf (now (s .entry)) (now (ix .entry)) ⌝ }
-    ensures trace { λ r. ⌜ r .paths .trace ≡ traceCited (now (s .entry)) (now (ix .entry)) ⌝ }
-    ensures prints { λ r. ⌜ r .paths .prints ≡ pathPrints (now (s .entry)) (now (ix .entry)) ⌝ }
-    ensures broken { λ r. ⌜ r .paths .broken ≡ broken-paths (manifestOf (now (s .entry)) (now (ix .entry))) ⌝ }
-    ensures twice { λ r. ⌜ r .paths .twice ≡ path-twice (manifestOf (now (s .entry)) (now (ix .entry))) ⌝ }
+// The same, with what is known of the paths and the names: they are read once, here. The index is settled first: then names that are the same stand at one place.
+pub fn refusal(s: &[u8], ix: &mut [usize; 2470]) -> Judged
+    ensures index { λ _. ⌜ now (ix .exit) ≡ settledIn (now (s .entry)) (now (ix .entry)) ⌝ }
+    ensures refusal { λ r. ⌜ r .refusal ≡ first cited-rules (manifestOf (now (s .entry)) (now (ix .exit))) ⌝ }
+    ensures cites { λ r. ⌜ r .paths .cites ≡ citesOf (now (s .entry)) (now (ix .exit)) ⌝ }
+    ensures trace { λ r. ⌜ r .paths .trace ≡ traceCited (now (s .entry)) (now (ix .exit)) ⌝ }
+    ensures prints { λ r. ⌜ r .paths .prints ≡ pathPrints (now (s .entry)) (now (ix .exit)) ⌝ }
+    ensures broken { λ r. ⌜ r .paths .broken ≡ broken-paths (manifestOf (now (s .entry)) (now (ix .exit))) ⌝ }
+    ensures twice { λ r. ⌜ r .paths .twice ≡ path-twice (manifestOf (now (s .entry)) (now (ix .exit))) ⌝ }
+    ensures names_broken { λ r. ⌜ r .names .broken ≡ broken-names (manifestOf (now (s .entry)) (now (ix .exit))) ⌝ }
+    ensures names_empty { λ r. ⌜ r .names .empty ≡ applies refusal-13-empty-machine-name (manifestOf (now (s .entry)) (now (ix .exit))) ⌝ }
 {
+    let names = listed::names(s, ix);
     let paths = listed::paths(s, ix);
     let cites = paths.cites;
-    let refusal = first_rule(s, ix, &cites, paths.trace);
-    Judged { refusal, paths }
+    let firsts = names.firsts;
+    let refusal = first_rule(s, ix, &cites, paths.trace, &firsts);
+    Judged {
+        refusal,
+        paths,
+        names,
+    }
 }

@@ -1,20 +1,22 @@
-// The paths of a manifest, each read once: which entries are cited, the prints of the paths, whether a size is broken, and whether a path stands twice.
+// The paths and the names of a manifest, each read once. Of paths: which entries are cited, their prints, whether a size is broken, and whether one stands twice. Of names: where each first
+// stands, whether a size is broken, and whether one is empty.
 ghost use mathlib.Core.Path.{_≡_};
-ghost use mathlib.Core.Bool.{true, _||_, _&&_};
+ghost use mathlib.Core.Bool.{true, not, _||_, _&&_};
 ghost use Prim.Native.Nat.{_+_, _≤_, _<_};
 ghost use lib.Dec.{eqb, ltb};
-ghost use lib.ListN.{length, take};
+ghost use lib.ListN.{length, take, getD, replicate};
 ghost use Rattle.json.specs.Tree.{same};
 ghost use Rattle.text.specs.Reading.{pick};
-ghost use Rattle.manifest.specs.Rows.{holds};
-ghost use Rattle.manifest.specs.Rules.{applies};
-ghost use Rattle.index.specs.Index.{entriesIn, textAt, textCell, manifestOf};
+ghost use Rattle.manifest.specs.Rows.{holds, any, declared, cited-machines};
+ghost use Rattle.manifest.specs.Rules.{applies, no-name, outside-of, is-empty, refusal-13-empty-machine-name};
+ghost use Rattle.index.specs.Index.{entriesIn, itemsIn, listed, textAt, textCell, entryAt, manifestOf};
 ghost use Rattle.prints.specs.Prints.{printAt, pathPrints};
 ghost use Rattle.finds.specs.Finds.{entryCited, citesOf, traceCited};
-ghost use Rattle.sizes.specs.Sizes.{broken-paths};
+ghost use Rattle.sizes.specs.Sizes.{broken-paths, broken-names};
 ghost use Rattle.once.specs.Once.{path-twice};
 ghost use Rattle.listed.specs.laws.Rules.{own-10, cited-10, paths-15};
-ghost use Rattle.listed.specs.laws.Parts.{sizeBroken, pathBefore, slot, Kept, Held, Measured, Agree, Read};
+ghost use Rattle.listed.specs.Settled.{settledIn, firstsIn, itemCell, entryCells, cellSettled, cellsSettled};
+ghost use Rattle.listed.specs.laws.Parts.{sizeBroken, pathBefore, slot, Kept, Held, Measured, Agree, Read, Table, Placed, soFar, sizeAt, itemNames};
 use prints::Measure;
 
 // What is known of the paths of a manifest: which entry each entry cites, and `trace_time`; the print of each entry's path; whether one is of a broken size; whether one stands in two entries.
@@ -98,11 +100,31 @@ fn keep(texts: &mut [u8; 8448], slot: usize, text: &[u8; 256])
     }
 }
 
-// The length and the print of the text at p, which is kept in a slot.
+// A slot is set to zeros.
+fn clear(texts: &mut [u8; 8448], slot: usize)
+    requires { ⌜ (slot ≤ 32) × (length (now texts) ≡ 8448) ⌝ }
+    ensures { λ _. ⌜ Kept (now (texts .entry)) slot (replicate 256 0) (now (texts .exit)) ⌝ }
+{
+    let base = 256 * slot;
+    let mut k: usize = 0;
+    while k < 256 {
+        texts[base + k] = 0;
+        k += 1;
+    }
+}
+
+// The length and the print of the text at p, which is kept in a slot. Most entries of an index have no file, so where no string stands no text is read.
 fn measured(s: &[u8], p: usize, texts: &mut [u8; 8448], slot: usize) -> Measure
     requires { ⌜ (slot ≤ 32) × (length (now texts) ≡ 8448) ⌝ }
     ensures { λ r. ⌜ Measured (now (s .entry)) p (now (texts .entry)) slot (now (texts .exit)) (r .length) (r .print) ⌝ }
 {
+    if text::byte(s, p) != 34 {
+        clear(texts, slot);
+        return Measure {
+            length: 0,
+            print: 0,
+        };
+    }
     let mut text: [u8; 256] = [0; 256];
     let m = prints::measure_at(s, p, &mut text);
     keep(texts, slot, &text);
@@ -348,4 +370,263 @@ fn path_before(
         j += 1;
     }
     false
+}
+
+// ---- the names of machines
+
+// What is known of the names of a manifest: the positions at which different ones first stand, as far as 32 go, then zeros; whether one is of a broken size; whether a declared one is empty.
+pub struct NameFacts {
+    pub firsts: [usize; 32],
+    pub broken: bool,
+    pub empty: bool,
+}
+
+// Each name is read once, and where the index tells of a name, it is told by where its text first stands.
+pub fn names(s: &[u8], ix: &mut [usize; 2470]) -> NameFacts
+    ensures index { λ _. ⌜ now (ix .exit) ≡ settledIn (now (s .entry)) (now (ix .entry)) ⌝ }
+    ensures firsts { λ r. ⌜ r .firsts ≡ firstsIn (now (s .entry)) (now (ix .entry)) ⌝ }
+    ensures broken { λ r. ⌜ r .broken ≡ broken-names (manifestOf (now (s .entry)) (now (ix .entry))) ⌝ }
+    ensures empty { λ r. ⌜ r .empty ≡ applies refusal-13-empty-machine-name (manifestOf (now (s .entry)) (now (ix .entry))) ⌝ }
+{
+    let mut firsts: [usize; 32] = [0; 32];
+    let mut prints: [u32; 32] = [0; 32];
+    let mut lengths: [usize; 32] = [0; 32];
+    let mut texts: [u8; 8448] = [0; 8448];
+    let outer = ix[1];
+    let trace = settle(
+        s,
+        ix,
+        4,
+        &mut firsts,
+        &mut prints,
+        &mut lengths,
+        &mut texts,
+        0,
+    );
+    let mut broken = no_name(outer, trace.length);
+    let mut empty = false;
+    let mut held = trace.held;
+    let n = index::entries(ix);
+    let mut i: usize = 0;
+    while i < n {
+        let found = settle_entry(
+            s,
+            ix,
+            i,
+            &mut firsts,
+            &mut prints,
+            &mut lengths,
+            &mut texts,
+            held,
+        );
+        held = found.held;
+        broken = either(broken, found.broken);
+        empty = either(empty, found.empty);
+        i += 1;
+    }
+    NameFacts {
+        firsts,
+        broken,
+        empty,
+    }
+}
+
+// What is found of names: how many places of the table are taken then, whether a size is broken, whether a declared name is empty.
+struct Found {
+    held: usize,
+    broken: bool,
+    empty: bool,
+}
+
+// The names of entry i: of its `machine`, its `clocks`, its `sync_to`, and its items.
+fn settle_entry(
+    s: &[u8],
+    ix: &mut [usize; 2470],
+    i: usize,
+    firsts: &mut [usize; 32],
+    prints: &mut [u32; 32],
+    lengths: &mut [usize; 32],
+    texts: &mut [u8; 8448],
+    n: usize,
+) -> Found
+    requires { ⌜ (i < 32) × Table (now s) (now firsts) (now prints) (now lengths) (now texts) n ⌝ }
+    ensures { λ r. ⌜ Table (now (s .entry)) (now (firsts .exit)) (now (prints .exit)) (now (lengths .exit)) (now (texts .exit)) (r .held) × (soFar (now (firsts .exit)) (r .held) (now (ix .exit)) ≡ cellsSettled (now (s .entry)) (entryCells (now (ix .entry)) i) (soFar (now (firsts .entry)) n (now (ix .entry)))) × (r .broken ≡ (any no-name (cited-machines (entryAt (now (s .entry)) (now (ix .entry)) i)) || any (outside-of 0 64) (declared (entryAt (now (s .entry)) (now (ix .entry)) i)))) × (r .empty ≡ any is-empty (declared (entryAt (now (s .entry)) (now (ix .entry)) i))) ⌝ }
+{
+    let machine = index::col(ix, i, 1);
+    let clocks = index::col(ix, i, 4);
+    let sync = inside(clocks, index::col(ix, i, 7));
+    let items = index::items(ix, i);
+    let row = 77 * i;
+    let name = settle(s, ix, 6 + (row + 2), firsts, prints, lengths, texts, n);
+    let own = settle(
+        s,
+        ix,
+        6 + (row + 6),
+        firsts,
+        prints,
+        lengths,
+        texts,
+        name.held,
+    );
+    let other = settle(
+        s,
+        ix,
+        6 + (row + 9),
+        firsts,
+        prints,
+        lengths,
+        texts,
+        own.held,
+    );
+    let found = settle_items(s, ix, i, items, firsts, prints, lengths, texts, other.held);
+    let cited = either(no_name(clocks, own.length), no_name(sync, other.length));
+    let declared = either(long_name(machine, name.length), found.broken);
+    let broken = either(cited, declared);
+    let empty = either(empty_name(machine, name.length), found.empty);
+    Found {
+        held: found.held,
+        broken,
+        empty,
+    }
+}
+
+// The names of the first items of entry i.
+fn settle_items(
+    s: &[u8],
+    ix: &mut [usize; 2470],
+    i: usize,
+    items: usize,
+    firsts: &mut [usize; 32],
+    prints: &mut [u32; 32],
+    lengths: &mut [usize; 32],
+    texts: &mut [u8; 8448],
+    n: usize,
+) -> Found
+    requires { ⌜ (i < 32) × (items ≡ itemsIn (now ix) i) × Table (now s) (now firsts) (now prints) (now lengths) (now texts) n ⌝ }
+    ensures { λ r. ⌜ Table (now (s .entry)) (now (firsts .exit)) (now (prints .exit)) (now (lengths .exit)) (now (texts .exit)) (r .held) × (soFar (now (firsts .exit)) (r .held) (now (ix .exit)) ≡ cellsSettled (now (s .entry)) (listed (itemCell i) 0 items) (soFar (now (firsts .entry)) n (now (ix .entry)))) × (r .broken ≡ any (outside-of 0 64) (itemNames (now (s .entry)) (now (ix .entry)) i)) × (r .empty ≡ any is-empty (itemNames (now (s .entry)) (now (ix .entry)) i)) ⌝ }
+{
+    let mut held = n;
+    let mut broken = false;
+    let mut empty = false;
+    let mut k: usize = 0;
+    while k < items {
+        let name = settle(
+            s,
+            ix,
+            6 + (77 * i + (13 + (2 * k + 1))),
+            firsts,
+            prints,
+            lengths,
+            texts,
+            held,
+        );
+        held = name.held;
+        broken = either(broken, 64 < name.length);
+        empty = either(empty, name.length == 0);
+        k += 1;
+    }
+    Found {
+        held,
+        broken,
+        empty,
+    }
+}
+
+// A name of n bytes in a value that is there, and no machine's: "names 1 to 64 bytes".
+fn no_name(outer: usize, length: usize) -> bool
+    ensures { λ r. ⌜ r ≡ (not (eqb outer 0) && (ltb length 1 || ltb 64 length)) ⌝ }
+{
+    if outer == 0 {
+        return false;
+    }
+    if length < 1 {
+        return true;
+    }
+    64 < length
+}
+
+// A name in a value that is there is longer than a name may be.
+fn long_name(outer: usize, length: usize) -> bool
+    ensures { λ r. ⌜ r ≡ (not (eqb outer 0) && ltb 64 length) ⌝ }
+{
+    if outer == 0 { false } else { 64 < length }
+}
+
+// A name in a value that is there is empty.
+fn empty_name(outer: usize, length: usize) -> bool
+    ensures { λ r. ⌜ r ≡ (not (eqb outer 0) && eqb length 0) ⌝ }
+{
+    if outer == 0 { false } else { length == 0 }
+}
+
+// How many places of the table are taken, and the length of the name that was read; 1 where there was none, of which no rule speaks.
+struct Tally {
+    held: usize,
+    length: usize,
+}
+
+// The name that cell c of an index tells of is read, and the cell set to where its text first stands. One whose text the table does not have is added to it, while there is room.
+fn settle(
+    s: &[u8],
+    ix: &mut [usize; 2470],
+    c: usize,
+    firsts: &mut [usize; 32],
+    prints: &mut [u32; 32],
+    lengths: &mut [usize; 32],
+    texts: &mut [u8; 8448],
+    n: usize,
+) -> Tally
+    requires { ⌜ (c < 2470) × Table (now s) (now firsts) (now prints) (now lengths) (now texts) n ⌝ }
+    ensures { λ r. ⌜ Table (now (s .entry)) (now (firsts .exit)) (now (prints .exit)) (now (lengths .exit)) (now (texts .exit)) (r .held) × (soFar (now (firsts .exit)) (r .held) (now (ix .exit)) ≡ cellSettled (now (s .entry)) c (soFar (now (firsts .entry)) n (now (ix .entry)))) × (r .length ≡ sizeAt (now (s .entry)) (getD (now (ix .entry)) c 0)) ⌝ }
+{
+    let p = ix[c];
+    if p == 0 {
+        return Tally { held: n, length: 1 };
+    }
+    let m = measured(s, p, texts, n);
+    let print = m.print;
+    let length = m.length;
+    let k = place_of(s, p, m, firsts, prints, lengths, texts, n);
+    if k < n {
+        ix[c] = firsts[k];
+        return Tally { held: n, length };
+    }
+    if 32 <= n {
+        return Tally { held: n, length };
+    }
+    firsts[n] = p;
+    prints[n] = print;
+    lengths[n] = length;
+    Tally {
+        held: n + 1,
+        length,
+    }
+}
+
+// At which of the first n places of the table the text at p stands first, which is in slot n; n if at none. Only texts with one print are compared.
+fn place_of(
+    s: &[u8],
+    p: usize,
+    m: Measure,
+    firsts: &[usize; 32],
+    prints: &[u32; 32],
+    lengths: &[usize; 32],
+    texts: &[u8; 8448],
+    n: usize,
+) -> usize
+    requires { ⌜ Table (now s) (now firsts) (now prints) (now lengths) (now texts) n × Held (now s) (now texts) n p (m .length) × (m .print ≡ printAt (now s) p) ⌝ }
+    ensures { λ r. ⌜ Placed (now (s .entry)) (now (firsts .entry)) n p r ⌝ }
+{
+    let print = m.print;
+    let length = m.length;
+    let mut k: usize = 0;
+    while k < n {
+        if prints[k] == print {
+            if same_path(s, p, n, length, firsts[k], k, lengths[k], texts) {
+                return k;
+            }
+        }
+        k += 1;
+    }
+    n
 }

@@ -2,7 +2,7 @@
 ghost use mathlib.Core.Path.{_≡_};
 ghost use mathlib.Core.Bool.{true};
 ghost use Prim.Native.Nat.{_≤_, _<_};
-ghost use lib.ListN.{length};
+ghost use lib.ListN.{length, getD};
 ghost use Rattle.json.specs.Tree.{same};
 ghost use Rattle.index.specs.Index.{textAt};
 ghost use Rattle.named.specs.Named.{place, declaredAt, nameTable, printTable, standsAt, countIn, isCalled, numberBy, numberAt};
@@ -23,7 +23,7 @@ pub struct Names {
     pub prints: [u32; 32],
 }
 
-// The names that the entries of an index declare.
+// The names that the entries of an index declare. Names that are the same mostly stand at one position, since the index is settled before: then only the first is read.
 pub fn fill(s: &[u8], ix: &[usize; 2470]) -> Names
     ensures { λ r. ⌜ (r .positions ≡ nameTable (now (s .entry)) (now (ix .entry))) × (r .prints ≡ printTable (now (s .entry)) (now (ix .entry))) ⌝ }
 {
@@ -165,10 +165,17 @@ fn add(s: &[u8], p: usize, names: &mut [usize; 32], prints: &mut [u32; 32], t: T
     if 32 <= n {
         return t;
     }
-    if is_expected(s, p, names, n, t.next) {
+    if is_expected(p, names, n, t.next) {
         return Tally {
             held: n,
             next: t.next + 1,
+        };
+    }
+    let j = place_at(p, names, n);
+    if j < n {
+        return Tally {
+            held: n,
+            next: j + 1,
         };
     }
     let print = prints::print_at(s, p);
@@ -187,15 +194,30 @@ fn add(s: &[u8], p: usize, names: &mut [usize; 32], prints: &mut [u32; 32], t: T
     }
 }
 
-// The text at p is the name at the place where it is expected, if that is one of the first n.
-fn is_expected(s: &[u8], p: usize, names: &[usize; 32], n: usize, expected: usize) -> bool
-    requires { ⌜ (length (now names) ≡ 32) × (n ≤ 32) ⌝ }
-    ensures { λ r. ⌜ (r ≡ true → (expected < n) × Place (now (s .entry)) p (now (names .entry)) n expected) ⌝ }
+// The name at the place where p is expected, if that is one of the first n, stands at p.
+fn is_expected(p: usize, names: &[usize; 32], n: usize, expected: usize) -> bool
+    requires { ⌜ n ≤ 32 ⌝ }
+    ensures { λ r. ⌜ (r ≡ true → (expected < n) × (getD (now (names .entry)) expected 0 ≡ p)) ⌝ }
 {
     if n <= expected {
         return false;
     }
-    values::same_texts(s, names[expected], p)
+    names[expected] == p
+}
+
+// At which of the first n places p itself stands; n if at none.
+fn place_at(p: usize, names: &[usize; 32], n: usize) -> usize
+    requires { ⌜ n ≤ 32 ⌝ }
+    ensures { λ r. ⌜ (r < n → getD (now (names .entry)) r 0 ≡ p) ⌝ }
+{
+    let mut k: usize = 0;
+    while k < n {
+        if names[k] == p {
+            return k;
+        }
+        k += 1;
+    }
+    n
 }
 
 // At which place among the first n names the text at p stands, whose print is known; n if at none. Only texts with one print are compared.

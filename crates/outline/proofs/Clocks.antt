@@ -1,111 +1,151 @@
--- The clocks' names, one after the other in one string of bytes: each stands between two of the bounds. Assumes nothing.
-use mathlib.Core.Path.{_≡_, refl, sym, ap, _∙_}
+-- The number of a clock's name, by the words with which a string begins. Assumes nothing.
+use mathlib.Core.Path.{_≡_, refl, sym, ap, subst, _∙_}
 use mathlib.Core.Bool.{Bool, true, false}
-use mathlib.Core.List.{List, [], _∷_}
-use Prim.Native.Nat.{ℕ, zero, suc, _+_, _-_, _≤_, _<_}
+use mathlib.Core.List.{[]}
+use Prim.Native.Nat.{ℕ, _+_, _-_}
 use native.Mathlib.Omega.{arith}
-use native.Mathlib.Numerals.{add-one}
-use lib.ListN.{length, take, drop, getD}
-use lib.Seq.{drop-cons}
-use Rattle.text.specs.Reading.{Text, Out, pick, peek}
+use lib.ListN.{take, drop}
+use Rattle.text.specs.Reading.{Text, Out, done, bad, deep, next, pick, peek}
+use Rattle.text.specs.laws.Readers.{pick-true, pick-false}
+use Rattle.text.specs.laws.Raw.{prefixed}
 use Rattle.text.specs.laws.Strings.{string-none}
 use Rattle.json.specs.Tree.{same}
-use Rattle.values.specs.Strings.{sameAs}
+use Rattle.values.specs.Strings.{isText, rest}
+use Rattle.values.specs.laws.Rest.{rest-close, string-is}
+use Rattle.values.specs.laws.Fronts.{not-empty}
+use Rattle.manifest.specs.Names.{bytes}
 use Rattle.manifest.specs.Rows.{firstOr}
-use Rattle.manifest.specs.Rules.{clock-names, domain}
+use Rattle.manifest.specs.Rules.{domain}
 use Rattle.outline.specs.Outline.{textIn, textAt, domainAt}
-use Rattle.outline.specs.laws.Names.{names, same-text}
+use Rattle.outline.specs.laws.Names.{names, capitals, Behind, endedAs, coarseAs}
+use Rattle.outline.proofs.Words.{text-behind}
 
-abbrev pub bounds : List ℕ
-bounds = 0 ∷ 8 ∷ 23 ∷ 32 ∷ 48 ∷ 61 ∷ 69 ∷ []
-
--- what holds of each of six
-six : (P : ℕ → Type 0) → P 0 → P 1 → P 2 → P 3 → P 4 → P 5 → (k : ℕ) → k < 6 → P k
-six P a b c d e f zero l = a
-six P a b c d e f (suc zero) l = b
-six P a b c d e f (suc (suc zero)) l = c
-six P a b c d e f (suc (suc (suc zero))) l = d
-six P a b c d e f (suc (suc (suc (suc zero)))) l = e
-six P a b c d e f (suc (suc (suc (suc (suc zero))))) l = f
-six P a b c d e f (suc (suc (suc (suc (suc (suc k)))))) l = absurd (omega arith)
-
--- the bounds rise, within the string: no name is empty
-rises : (k : ℕ) → k < 6 → (getD bounds k 0 < getD bounds (suc k) 0) × (getD bounds (suc k) 0 ≤ 69)
-rises = six (λ k. (getD bounds k 0 < getD bounds (suc k) 0) × (getD bounds (suc k) 0 ≤ 69)) (omega arith, omega arith) (omega arith, omega arith) (omega arith, omega arith) (omega arith, omega arith) (omega arith, omega arith) (omega arith, omega arith)
-
-pub rise : (k : ℕ) → k < 6 → (getD bounds k 0 < getD bounds (k + 1) 0) × (getD bounds (k + 1) 0 ≤ 69)
-rise k h = rw add-one (rises k h)
-
--- between two of them stands the name with that number, which is not empty
-record Piece (k : ℕ) : Type 0 where
-  byte : ℕ
-  more : Text
-  named : getD clock-names k [] ≡ byte ∷ more
-  stands : take (getD bounds (suc k) 0 - getD bounds k 0) (drop (getD bounds k 0) names) ≡ byte ∷ more
-
-piece : (k : ℕ) → k < 6 → Piece k
-piece =
-    six Piece
-    (record { byte = _; more = _; named = refl; stands = refl })
-    (record { byte = _; more = _; named = refl; stands = refl })
-    (record { byte = _; more = _; named = refl; stands = refl })
-    (record { byte = _; more = _; named = refl; stands = refl })
-    (record { byte = _; more = _; named = refl; stands = refl })
-    (record { byte = _; more = _; named = refl; stands = refl })
-
-module _ (k : ℕ) (h : k < 6) {from to : ℕ} (ef : from ≡ getD bounds k 0) (et : to ≡ getD bounds (k + 1) 0) {all : Text} (ea : all ≡ names) where
-  cut-out : take (to - from) (drop from all) ≡ piece k h .byte ∷ piece k h .more
-  cut-out =
-      let e : to ≡ getD bounds (suc k) 0 = et ∙ ap (λ (n : ℕ). getD bounds n 0) (add-one k) in
-      (λ i. take (e i - ef i) (drop (ef i) (ea i))) ∙ piece k h .stands
-
-  pub some-byte : 0 < length (take (to - from) (drop from all))
-  some-byte = let e : length (take (to - from) (drop from all)) ≡ suc (length (piece k h .more)) = ap length cut-out in omega arith
+none-empty : domain [] ≡ 0
+unfolding domain firstOr same pick
+none-empty = refl
 
 -- where no string stands, none of the names does
 pub no-clock : (s : Text) (p : ℕ) → (peek s p ≡ 34 → ⊥) → 0 ≡ domainAt s p
-unfolding domainAt textAt textIn domain firstOr same pick
-no-clock s p h = ap (λ (o : Out Text). domain (textIn o)) (sym (string-none s p h))
+unfolding domainAt textAt textIn
+no-clock s p h = sym (ap (λ (o : Out Text). domain (textIn o)) (string-none s p h) ∙ none-empty)
 
--- the names from the k-th on decide
-pub record Left (s : Text) (p k number : ℕ) : Type 0 where
-  pub few : k ≤ 6
-  pub counts : number ≡ k + 1
-  pub same-left : domainAt s p ≡ firstOr 0 (same (textAt s p)) (drop k clock-names) (suc k)
+-- ---- nothing is left, or _COARSE
 
-pub left-start : (s : Text) (p : ℕ) → Left s p 0 1
-unfolding domainAt domain
-left-start s p = record { few = omega arith; counts = refl; same-left = refl }
+module _ (s : Text) (p : ℕ) where
+  closes : peek s p ≡ 34 → isText (rest s p) [] ≡ true
+  unfolding isText same
+  closes h = ap (λ (o : Out Text). isText o []) (rest-close s p h)
 
-module _ (s : Text) (p k number : ℕ) (l : Left s p k number) where
-  pub left-end : 6 ≤ k → 0 ≡ domainAt s p
-  unfolding firstOr
-  left-end h =
-      let q : k ≡ 6 = omega (arith, l .few) in
-      sym (l .same-left ∙ ap (λ (n : ℕ). firstOr 0 (same (textAt s p)) (drop n clock-names) (suc n)) q)
+  module _ {b : ℕ} (e : b ≡ peek s p) where
+    pub ended-here : (number : ℕ) → b ≡ 34 → number ≡ endedAs (rest s p) number
+    ended-here number h = sym (pick-true _ _ (closes (sym e ∙ h)))
 
-  module _ (h : k < 6) {from to : ℕ} (ef : from ≡ getD bounds k 0) (et : to ≡ getD bounds (k + 1) 0) {all : Text} (ea : all ≡ names) {r : Bool} (er : r ≡ sameAs s p (take (to - from) (drop from all))) where
-    is-name : r ≡ same (textAt s p) (getD clock-names k [])
-    is-name =
-        let w = piece k h in
-        er ∙ ap (sameAs s p) (cut-out k h ef et ea) ∙ same-text s p (w .byte) (w .more) ∙ ap (same (textAt s p)) (sym (w .named))
+    pub ended-not : (number : ℕ) → (b ≡ 34 → ⊥) → 0 ≡ endedAs (rest s p) number
+    ended-not number h = sym (pick-false _ _ (not-empty s p (λ q. h (e ∙ q))))
 
-    here : domainAt s p ≡ pick r (suc k) (firstOr 0 (same (textAt s p)) (drop (suc k) clock-names) (suc (suc k)))
-    unfolding firstOr
-    here =
-        l .same-left
-        ∙ ap (λ (ns : List Text). firstOr 0 (same (textAt s p)) ns (suc k)) (drop-cons clock-names k [] h)
-        ∙ ap (λ (b : Bool). pick b (suc k) (firstOr 0 (same (textAt s p)) (drop (suc k) clock-names) (suc (suc k)))) (sym is-name)
+    pub coarse-here : (number : ℕ) → b ≡ 34 → number ≡ coarseAs (rest s p) number
+    coarse-here number h = sym (pick-true _ _ (closes (sym e ∙ h)))
 
-    pub left-hit : r ≡ true → number ≡ domainAt s p
-    unfolding pick
-    left-hit g = l .counts ∙ add-one k ∙ sym (here ∙ ap (λ (b : Bool). pick b (suc k) (firstOr 0 (same (textAt s p)) (drop (suc k) clock-names) (suc (suc k)))) g)
+    module _ (h : b ≡ 34 → ⊥) {q : ℕ} (w : Behind s p (bytes "_COARSE") q) where
+      pub coarse-none : (number : ℕ) → q ≡ 0 → 0 ≡ coarseAs (rest s p) number
+      coarse-none number z = sym (pick-false _ _ (not-empty s p (λ g. h (e ∙ g))) ∙ pick-false _ _ (w .none z []))
 
-    pub left-on : r ≡ false → Left s p (k + 1) (number + 1)
-    unfolding pick
-    left-on g =
-        record {
-          few = omega arith;
-          counts = ap (λ (n : ℕ). n + 1) (l .counts);
-          same-left = here ∙ ap (λ (b : Bool). pick b (suc k) (firstOr 0 (same (textAt s p)) (drop (suc k) clock-names) (suc (suc k)))) g ∙ ap (λ (n : ℕ). firstOr 0 (same (textAt s p)) (drop n clock-names) (suc n)) (sym (add-one k));
-        }
+      pub coarse-ended : (number : ℕ) {r : ℕ} → (q ≡ 0 → ⊥) → r ≡ endedAs (rest s q) (number + 1) → r ≡ coarseAs (rest s p) number
+      coarse-ended number n f =
+          f ∙ ap (λ (t : Bool). pick t (number + 1) 0) (sym (text-behind w n []))
+          ∙ sym (pick-false _ _ (not-empty s p (λ g. h (e ∙ g))))
+
+-- ---- the first word
+
+after-boottime : (o : Out Text) → domain (textIn (next o (prefixed (bytes "BOOTTIME")))) ≡ endedAs o 6
+unfolding domain firstOr textIn next prefixed isText same pick
+after-boottime (done t j) = refl
+after-boottime (bad p) = refl
+after-boottime (deep p) = refl
+
+after-realtime : (o : Out Text) → domain (textIn (next o (prefixed (bytes "REALTIME")))) ≡ coarseAs o 1
+unfolding domain firstOr textIn next prefixed isText same pick
+after-realtime (done t j) = refl
+after-realtime (bad p) = refl
+after-realtime (deep p) = refl
+
+abbrev rawAs : Out Text → ℕ
+rawAs o = pick (isText o []) 3 (pick (isText o (bytes "_COARSE")) 4 (pick (isText o (bytes "_RAW")) 5 0))
+
+after-monotonic : (o : Out Text) → domain (textIn (next o (prefixed (bytes "MONOTONIC")))) ≡ rawAs o
+unfolding domain firstOr textIn next prefixed isText same pick
+after-monotonic (done t j) = refl
+after-monotonic (bad p) = refl
+after-monotonic (deep p) = refl
+
+-- a text that is none of the names
+none-of : (o : Out Text) → isText o (bytes "REALTIME") ≡ false → isText o (bytes "REALTIME_COARSE") ≡ false → isText o (bytes "MONOTONIC") ≡ false → isText o (bytes "MONOTONIC_COARSE") ≡ false → isText o (bytes "MONOTONIC_RAW") ≡ false → isText o (bytes "BOOTTIME") ≡ false → domain (textIn o) ≡ 0
+unfolding domain firstOr textIn isText
+none-of (done t j) a b c d e f = pick-false _ _ a ∙ pick-false _ _ b ∙ pick-false _ _ c ∙ pick-false _ _ d ∙ pick-false _ _ e ∙ pick-false _ _ f
+none-of (bad p) a b c d e f = none-empty
+none-of (deep p) a b c d e f = none-empty
+
+-- of three numbers in turn, the first two alone decide if they give one; else the third does
+one-of-two : (a b : Bool) (x : ℕ) → (_≡_ {A = ℕ} (pick a 3 (pick b 4 0)) 0 → ⊥) → _≡_ {A = ℕ} (pick a 3 (pick b 4 0)) (pick a 3 (pick b 4 x))
+unfolding pick
+one-of-two true b x n = refl
+one-of-two false true x n = refl
+one-of-two false false x n = absurd (n refl)
+
+neither : (a b : Bool) (x : ℕ) → _≡_ {A = ℕ} (pick a 3 (pick b 4 0)) 0 → x ≡ pick a 3 (pick b 4 x)
+unfolding pick
+neither true b x e = absurd (omega arith)
+neither false true x e = absurd (omega arith)
+neither false false x e = refl
+
+-- the string at p
+module _ (s : Text) (p : ℕ) (h : peek s p ≡ 34) where
+  -- what is read past the quote decides
+  quoted : domain (textIn (rest s (p + 1))) ≡ domainAt s p
+  unfolding domainAt textAt
+  quoted = ap (λ (o : Out Text). domain (textIn o)) (sym (string-is s p h))
+
+  -- and where that begins with a word, what follows the word does
+  by-word : (w : Text) (f : Out Text → ℕ) → ((o : Out Text) → domain (textIn (next o (prefixed w))) ≡ f o) → {b : ℕ} → Behind s (p + 1) w b → (b ≡ 0 → ⊥) → f (rest s b) ≡ domainAt s p
+  by-word w f after {b} l n = sym (after (rest s b)) ∙ ap (λ (o : Out Text). domain (textIn o)) (sym (l .some n)) ∙ quoted
+
+  pub by-boottime : {b r : ℕ} → Behind s (p + 1) (bytes "BOOTTIME") b → (b ≡ 0 → ⊥) → r ≡ endedAs (rest s b) 6 → r ≡ domainAt s p
+  by-boottime l n e = e ∙ by-word (bytes "BOOTTIME") (λ o. endedAs o 6) after-boottime l n
+
+  pub by-realtime : {b r : ℕ} → Behind s (p + 1) (bytes "REALTIME") b → (b ≡ 0 → ⊥) → r ≡ coarseAs (rest s b) 1 → r ≡ domainAt s p
+  by-realtime l n e = e ∙ by-word (bytes "REALTIME") (λ o. coarseAs o 1) after-realtime l n
+
+  -- none of the words
+  pub by-none : {b r m : ℕ} → Behind s (p + 1) (bytes "BOOTTIME") b → b ≡ 0 → Behind s (p + 1) (bytes "REALTIME") r → r ≡ 0 → Behind s (p + 1) (bytes "MONOTONIC") m → m ≡ 0 → 0 ≡ domainAt s p
+  by-none wb zb wr zr wm zm =
+      sym
+      (none-of (rest s (p + 1)) (wr .none zr []) (wr .none zr (bytes "_COARSE")) (wm .none zm []) (wm .none zm (bytes "_COARSE")) (wm .none zm (bytes "_RAW")) (wb .none zb []))
+      ∙ quoted
+
+  module _ {m n : ℕ} (w : Behind s (p + 1) (bytes "MONOTONIC") m) (z : m ≡ 0 → ⊥) (e : n ≡ coarseAs (rest s m) 3) where
+    monotonic : rawAs (rest s m) ≡ domainAt s p
+    monotonic = by-word (bytes "MONOTONIC") rawAs after-monotonic w z
+
+    pub by-monotonic : (n ≡ 0 → ⊥) → n ≡ domainAt s p
+    by-monotonic f = e ∙ one-of-two _ _ _ (λ q. f (e ∙ q)) ∙ monotonic
+
+    pub by-none-after : n ≡ 0 → {k : ℕ} → Behind s m (bytes "_RAW") k → k ≡ 0 → 0 ≡ domainAt s p
+    by-none-after f b g = sym (pick-false _ _ (b .none g [])) ∙ neither _ _ _ (sym e ∙ f) ∙ monotonic
+
+    pub by-raw : n ≡ 0 → {k r : ℕ} → Behind s m (bytes "_RAW") k → (k ≡ 0 → ⊥) → r ≡ endedAs (rest s k) 5 → r ≡ domainAt s p
+    by-raw f b g q = q ∙ ap (λ (t : Bool). pick t 5 0) (sym (text-behind b g [])) ∙ neither _ _ _ (sym e ∙ f) ∙ monotonic
+
+-- ---- words of the table
+
+pub same-behind : {w v : Text} → w ≡ v → {s : Text} {from r : ℕ} → Behind s from w r → Behind s from v r
+same-behind e {s} {from} {r} h = subst (λ (l : Text). Behind s from l r) e h
+
+module _ {all : Text} (e : all ≡ names) (i j : ℕ) where
+  pub word-capitals : capitals (take (j - i) (drop i names)) ≡ true → capitals (take (j - i) (drop i all)) ≡ true
+  word-capitals h = ap (λ (l : Text). capitals (take (j - i) (drop i l))) e ∙ h
+
+  pub word-is : take (j - i) (drop i all) ≡ take (j - i) (drop i names)
+  word-is = ap (λ (l : Text). take (j - i) (drop i l)) e
+
+  pub word-behind : {s : Text} {from r : ℕ} → Behind s from (take (j - i) (drop i all)) r → Behind s from (take (j - i) (drop i names)) r
+  word-behind h = same-behind word-is h

@@ -1,5 +1,5 @@
 -- Laws that only the proofs of this crate's functions use.
 pub mod Steps
 pub mod Walk
-pub mod First
+pub mod Words
 pub mod Clocks

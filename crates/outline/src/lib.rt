@@ -1,24 +1,21 @@
 // The outline of a manifest's bytes: its start bytes (2), its outermost object (5), its version (6, 7), and the number of a clock's name.
 // Each question is answered on every text, at every position.
 ghost use mathlib.Core.Path.{_≡_};
-ghost use Prim.Native.Nat.{_+_, _<_};
-ghost use lib.ListN.{length};
-ghost use Rattle.text.specs.Reading.{peek};
-ghost use Rattle.values.specs.Strings.{sameAs};
+ghost use mathlib.Core.Bool.{true};
+ghost use Prim.Native.Nat.{_<_};
+ghost use Rattle.values.specs.Strings.{rest};
 ghost use Rattle.places.specs.Places.{nextMember};
+ghost use Rattle.manifest.specs.Names.{bytes};
 ghost use Rattle.manifest.specs.Manifest.{starts};
 ghost use Rattle.outline.specs.Outline.{alone as aloneOf, rootAt, not-1-at, versionsAt, domainAt};
 ghost use Rattle.outline.specs.laws.Versions.{misnumbered};
-ghost use Rattle.outline.specs.laws.Names.{names as allNames};
+ghost use Rattle.outline.specs.laws.Names.{names as allNames, capitals, Behind, endedAs, coarseAs};
 
 // Where the manifest object stands; or the document is refused as 5.
 pub enum Standing {
     At(usize),
     Refused,
 }
-
-// Where each clock's name starts among all of them, one after the other, and where the last one ends.
-const STARTS: [usize; 7] = [0, 8, 23, 32, 48, 61, 69];
 
 // The manifest starts with its 20 bytes, after whitespace. (If not: 2)
 pub fn opens(s: &[u8]) -> bool
@@ -108,28 +105,61 @@ pub fn versions(s: &[u8], at: usize) -> u8
     }
 }
 
-// A byte as `text::byte` gives it.
-fn wide(b: u8) -> u32
-    ensures { λ r. ⌜ r ≡ b ⌝ }
-{
-    b as u32
-}
+// Where each clock's name starts among all of them, one after the other, and where the last one ends.
+const STARTS: [usize; 7] = [0, 8, 23, 32, 48, 61, 69];
 
-// Whether the string at a position, past whose quote the byte `first` stands, is this name. What is not escaped begins with that byte, so that most names
-// are settled by it alone.
-fn is_named(s: &[u8], at: usize, first: u32, name: &[u8]) -> bool
-    requires { ⌜ (first ≡ peek (now s) (at + 1)) × (0 < length (now name)) ⌝ }
-    ensures { λ r. ⌜ r ≡ sameAs (now (s .entry)) at (now (name .entry)) ⌝ }
+// Behind a word with which what is left of a string from a position on begins; 0 if it does not begin with it. The word has only capital letters and underscores, which no
+// escape of two bytes stands for.
+fn past(s: &[u8], from: usize, word: &[u8]) -> usize
+    requires { ⌜ (0 < from) × (capitals (now word) ≡ true) ⌝ }
+    ensures { λ r. ⌜ Behind (now (s .entry)) from (now (word .entry)) r ⌝ }
 {
-    if first != 92 {
-        if first != wide(name[0]) {
-            return false;
+    let mut i = from;
+    let mut k: usize = 0;
+    while k < word.len() {
+        let b = text::byte(s, i);
+        let c = text::byte(word, k);
+        if b == 92 {
+            if values::ascii_escape(s, i) != c {
+                return 0;
+            }
+            i += 6;
+            k += 1;
+            continue;
         }
+        if b != c {
+            return 0;
+        }
+        i += 1;
+        k += 1;
     }
-    values::same_as(s, at, name)
+    i
 }
 
-// The number of the clock whose name is the string at a position, given all names one after the other: each is lent where it stands among them.
+// The number, if the string ends at p; else 0.
+fn ended(s: &[u8], p: usize, number: u8) -> u8
+    ensures { λ r. ⌜ r ≡ endedAs (rest (now (s .entry)) p) number ⌝ }
+{
+    if text::byte(s, p) == 34 { number } else { 0 }
+}
+
+// The number of the clock whose name is a word, or that word and another, which has the next number, where the string goes on at p behind the word; 0 if it is neither.
+fn coarse(s: &[u8], p: usize, number: u8, more: &[u8]) -> u8
+    requires { ⌜ (0 < p) × (number < 255) × (now more ≡ bytes "_COARSE") ⌝ }
+    ensures { λ r. ⌜ r ≡ coarseAs (rest (now (s .entry)) p) number ⌝ }
+{
+    if text::byte(s, p) == 34 {
+        return number;
+    }
+    let q = past(s, p, more);
+    if q == 0 {
+        return 0;
+    }
+    ended(s, q, number + 1)
+}
+
+// The number of the clock whose name is the string at a position, given all names one after the other. One that begins with another is compared from there on, so that
+// each is read once.
 fn numbered(s: &[u8], at: usize, names: &[u8]) -> u8
     requires { ⌜ now names ≡ allNames ⌝ }
     ensures { λ r. ⌜ r ≡ domainAt (now (s .entry)) at ⌝ }
@@ -137,19 +167,27 @@ fn numbered(s: &[u8], at: usize, names: &[u8]) -> u8
     if text::byte(s, at) != 34 {
         return 0;
     }
-    let first = text::byte(s, at + 1);
-    let mut k: usize = 0;
-    let mut number: u8 = 1;
-    while k < 6 {
-        let from = STARTS[k];
-        let end = STARTS[k + 1];
-        if is_named(s, at, first, &names[from..end]) {
-            return number;
-        }
-        k += 1;
-        number += 1;
+    let b = past(s, at + 1, &names[STARTS[5]..STARTS[6]]);
+    if b != 0 {
+        return ended(s, b, 6);
     }
-    0
+    let r = past(s, at + 1, &names[STARTS[0]..STARTS[1]]);
+    if r != 0 {
+        return coarse(s, r, 1, &names[STARTS[1] + 8..STARTS[2]]);
+    }
+    let m = past(s, at + 1, &names[STARTS[2]..STARTS[3]]);
+    if m == 0 {
+        return 0;
+    }
+    let n = coarse(s, m, 3, &names[STARTS[3] + 9..STARTS[4]]);
+    if n != 0 {
+        return n;
+    }
+    let w = past(s, m, &names[STARTS[4] + 9..STARTS[5]]);
+    if w == 0 {
+        return 0;
+    }
+    ended(s, w, 5)
 }
 
 // The number, 1 to 6, of the clock whose name is the string at a position; 0 where that is no clock's name.

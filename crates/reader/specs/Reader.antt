@@ -11,10 +11,11 @@ use Rattle.outline.specs.Outline.{rootAt}
 use Rattle.index.specs.Index.{manifestOf}
 use Rattle.survey.specs.Survey.{indexFrom}
 use Rattle.finds.specs.Finds.{lookups}
+use Rattle.listed.specs.Settled.{settledIn}
 
--- the index of an accepted manifest; zeros for a refused one, and for none
+-- the index of an accepted manifest, with each name told by where it first stands; zeros for a refused one, and for none
 unfoldable pub tableOf : Text → List ℕ
-tableOf s = pick (eqb (refusalOf s) 0) (indexFrom s (rootAt s)) (replicate 2470 0)
+tableOf s = pick (eqb (refusalOf s) 0) (settledIn s (indexFrom s (rootAt s))) (replicate 2470 0)
 
 -- what is looked up in it
 unfoldable pub lookupsOf : Text → List ℕ

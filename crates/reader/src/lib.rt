@@ -1,36 +1,55 @@
 // The manifest's reader: refusals 1 to 24 in their order.
 ghost use mathlib.Core.Path.{_≡_};
+ghost use mathlib.Core.Bool.{_||_};
 ghost use Rattle.manifest.specs.Rules.{first};
 ghost use Rattle.manifest.specs.Manifest.{refusalOf};
 ghost use Rattle.index.specs.Index.{manifestOf};
+ghost use Rattle.listed.specs.Settled.{settledIn};
 ghost use lib.ListN.{replicate};
 ghost use Rattle.reader.specs.Reader.{tableOf, lookupsOf};
 ghost use Rattle.reader.specs.laws.Parts.{later-rules};
 ghost use Rattle.reader.specs.laws.Tables.{Facts};
-use cited::Judged;
 use listed::PathFacts;
 
-// Refusals 10 to 24, judged over the index part after part, and what is known of the paths: `cited` reads each once, and the others are told of them.
-fn later(s: &[u8], ix: &[usize; 2470]) -> Judged
-    ensures { λ r. ⌜ (r .refusal ≡ first later-rules (manifestOf (now (s .entry)) (now (ix .entry)))) × Facts (now (s .entry)) (now (ix .entry)) (r .paths) ⌝ }
+// One of two tests holds.
+fn either(a: bool, b: bool) -> bool
+    ensures { λ r. ⌜ r ≡ (a || b) ⌝ }
+{
+    if a { true } else { b }
+}
+
+// What is judged: the refusal, and what is known of the paths, by which others are judged.
+struct Verdict {
+    refusal: u8,
+    paths: PathFacts,
+}
+
+// Refusals 10 to 24, judged over the index part after part, and what is known of the paths: `cited` has the names settled, reads each path and name once, and the others are told of them.
+fn later(s: &[u8], ix: &mut [usize; 2470]) -> Verdict
+    ensures { λ r. ⌜ (now (ix .exit) ≡ settledIn (now (s .entry)) (now (ix .entry))) × (r .refusal ≡ first later-rules (manifestOf (now (s .entry)) (now (ix .exit)))) × Facts (now (s .entry)) (now (ix .exit)) (r .paths) ⌝ }
 {
     let judged = cited::refusal(s, ix);
     let paths = judged.paths;
-    let size = sizes::refusal(s, ix, paths.broken);
+    let names = judged.names;
+    let broken = either(paths.broken, names.broken);
+    let size = sizes::refusal(s, ix, broken, names.empty);
     if size != 0 {
-        return Judged {
+        return Verdict {
             refusal: size,
             paths,
         };
     }
     let twice = once::refusal(s, ix, paths.twice);
     if twice != 0 {
-        return Judged {
+        return Verdict {
             refusal: twice,
             paths,
         };
     }
-    judged
+    Verdict {
+        refusal: judged.refusal,
+        paths,
+    }
 }
 
 // What is known of the paths of no manifest: nothing is cited.
@@ -47,20 +66,20 @@ fn no_paths() -> PathFacts
 }
 
 // The refusal, the index, and what is known of the paths; a refusal leaves zeros and nothing cited, and so do no bytes.
-fn table(s: &[u8], ix: &mut [usize; 2470]) -> Judged
+fn table(s: &[u8], ix: &mut [usize; 2470]) -> Verdict
     ensures { λ r. ⌜ (r .refusal ≡ refusalOf (now (s .entry))) × (now (ix .exit) ≡ tableOf (now (s .entry))) × Facts (now (s .entry)) (tableOf (now (s .entry))) (r .paths) ⌝ }
 {
     let early = survey::survey(s, ix);
     if early != 0 {
         let paths = no_paths();
-        return Judged {
+        return Verdict {
             refusal: early,
             paths,
         };
     }
     if s.len() == 0 {
         let paths = no_paths();
-        return Judged { refusal: 0, paths };
+        return Verdict { refusal: 0, paths };
     }
     let judged = later(s, ix);
     let refusal = judged.refusal;
@@ -68,7 +87,7 @@ fn table(s: &[u8], ix: &mut [usize; 2470]) -> Judged
         let zeros: [usize; 2470] = [0; 2470];
         *ix = zeros;
         let paths = no_paths();
-        return Judged { refusal, paths };
+        return Verdict { refusal, paths };
     }
     judged
 }

@@ -1,8 +1,8 @@
 -- Tests that are asked one after the other: of a rule outside the entries and in each of them; and the rules themselves. Assumes nothing.
-use mathlib.Core.Path.{_≡_, refl, sym, ap, _∙_}
-use mathlib.Core.Bool.{Bool, true, false, _||_, or-false}
+use mathlib.Core.Path.{_≡_, sym, ap, _∙_}
+use mathlib.Core.Bool.{Bool, true, false, _||_}
 use mathlib.Core.List.{List, _∷_}
-use Prim.Native.Nat.{ℕ, suc, _+_, _≤_, _<_}
+use Prim.Native.Nat.{ℕ, _+_, _≤_, _<_}
 use native.Mathlib.Numerals.{add-one}
 use Rattle.text.specs.Reading.{Text}
 use Rattle.text.specs.laws.Readers.{pick-true, pick-false}
@@ -37,31 +37,6 @@ module _ (r : Rule) (s : Text) (ix : List ℕ) where
 
       pub within-miss : a ≡ false → applies r (manifestOf s ix) ≡ fromEntry r s ix (i + 1)
       within-miss g = inv ∙ entry-on r s ix i (rw en at h) (sym ea ∙ g) ∙ ap (fromEntry r s ix) (sym (add-one i))
-
--- ---- a rule that is asked of all entries: whether it applied before those from number i on
-
-pub or-moves : (a b c : Bool) → (a || (b || c)) ≡ ((a || b) || c)
-or-moves true b c = refl
-or-moves false b c = refl
-
-module _ (r : Rule) (s : Text) (ix : List ℕ) where
-  entry-turn : (i : ℕ) → i < entriesIn ix → fromEntry r s ix i ≡ (r .within (manifestOf s ix) i (entryCell s ix i) || fromEntry r s ix (suc i))
-  entry-turn i h = go (r .within (manifestOf s ix) i (entryCell s ix i)) refl
-    where
-      go : (b : Bool) → r .within (manifestOf s ix) i (entryCell s ix i) ≡ b → fromEntry r s ix i ≡ (b || fromEntry r s ix (suc i))
-      go true e = entry-found r s ix i h e
-      go false e = entry-on r s ix i h e
-
-  module _ {n i : ℕ} (e : Bool) (en : n ≡ entriesIn ix) (inv : applies r (manifestOf s ix) ≡ (e || fromEntry r s ix i)) where
-    pub all-done : n ≤ i → e ≡ applies r (manifestOf s ix)
-    all-done h = sym (inv ∙ ap (λ (b : Bool). e || b) (entry-past r s ix i (rw en at h)) ∙ or-false e)
-
-    pub all-on : i < n → {a d : Bool} → a ≡ r .within (manifestOf s ix) i (entryCell s ix i) → d ≡ (e || a) → applies r (manifestOf s ix) ≡ (d || fromEntry r s ix (i + 1))
-    all-on h {a} ea ed =
-        inv ∙ ap (λ (b : Bool). e || b) (entry-turn i (rw en at h))
-        ∙ (λ j. e || (sym ea j || fromEntry r s ix (sym (add-one i) j)))
-        ∙ or-moves e a (fromEntry r s ix (i + 1))
-        ∙ ap (λ (b : Bool). b || fromEntry r s ix (i + 1)) (sym ed)
 
 -- ---- the rules
 

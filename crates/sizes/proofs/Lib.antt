@@ -1,9 +1,7 @@
 -- Laws that the proofs of the functions use.
 pub mod Judged
 pub mod Nested
-pub mod Declared
 pub mod Size
 pub mod Clock
 pub mod Both
-pub mod Empty
 pub mod Order

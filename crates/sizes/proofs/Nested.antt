@@ -1,14 +1,14 @@
 -- A test of a text at a position: where there is none, where there is one, and where the text is inside other values. Assumes nothing.
 use mathlib.Core.Path.{_≡_, refl, sym, ap, _∙_}
 use mathlib.Core.Bool.{Bool, true, false, _||_, or-false}
-use mathlib.Core.List.{List, [], _∷_, _++_}
+use mathlib.Core.List.{List, [], _++_}
 use Prim.Native.Nat.{ℕ}
 use lib.Dec.{eqb}
 use borrow.Author.Tests.{eq-eqb, ne-eqb}
 use Rattle.text.specs.Reading.{Text, pick}
 use Rattle.text.specs.laws.Readers.{pick-true, pick-false}
 use Rattle.manifest.specs.View.{Cell, absent, wrong, many, one}
-use Rattle.manifest.specs.Rows.{Clocks, SyncTo, its-clocks, its-syncs, own-clock, own-machine, syncTo, sync-machine, sync-clock, the, holds, any, flat, cited-machines, cited-clocks}
+use Rattle.manifest.specs.Rows.{Clocks, SyncTo, its-clocks, its-syncs, own-clock, syncTo, sync-clock, the, holds, any, flat, cited-clocks}
 use Rattle.manifest.specs.laws.Lists.{any-append}
 use Rattle.index.specs.Index.{textAt, textCell, at, colOf, syncBy, clocksBy, entryBy, entryAt}
 
@@ -34,25 +34,12 @@ pub inside-is : {q p x y r : ℕ} → q ≡ x → p ≡ y → r ≡ inside q p �
 inside-is e f h = h ∙ (λ i. inside (e i) (f i))
 
 module _ (t : Text → Bool) where
-  any-cell : (c : Cell Text) → any t (the c) ≡ holds t c
-  unfolding any the holds
-  any-cell absent = refl
-  any-cell wrong = refl
-  any-cell (many i) = refl
-  any-cell (one a) = or-false (t a)
-
   any-cell-on : (c : Cell Text) → any t (the c ++ []) ≡ holds t c
   unfolding any the holds
   any-cell-on absent = refl
   any-cell-on wrong = refl
   any-cell-on (many i) = refl
   any-cell-on (one a) = or-false (t a)
-
-  -- of each value one text
-  pub any-texts : {A : Type 0} (f : A → Cell Text) (l : List A) → any t (flat (λ v. the (f v)) l) ≡ any (λ v. holds t (f v)) l
-  unfolding any flat
-  any-texts f [] = refl
-  any-texts f (a ∷ l) = any-append t (the (f a)) (flat (λ v. the (f v)) l) ∙ (λ i. any-cell (f a) i || any-texts f l i)
 
   module _ (s : Text) where
     pub no-text : {p : ℕ} → p ≡ 0 → false ≡ holds t (textCell s p)
@@ -69,7 +56,7 @@ module _ (t : Text → Bool) where
 
     -- the text f of a value v, which is there unless b
     module _ {A : Type 0} (f : A → Cell Text) (v : A) (p : ℕ) (e : f v ≡ textCell s p) where
-      pub any-inside : (b : Bool) → any t (flat (λ w. the (f w)) (the (pick b absent (one v)))) ≡ holds t (textCell s (pick b 0 p))
+      any-inside : (b : Bool) → any t (flat (λ w. the (f w)) (the (pick b absent (one v)))) ≡ holds t (textCell s (pick b 0 p))
       unfolding pick flat the any at holds
       any-inside true = refl
       any-inside false = any-cell-on (f v) ∙ ap (holds t) e
@@ -90,16 +77,8 @@ module _ (t : Text → Bool) where
           go true = refl
           go false = any-cell-on (g v) ∙ ap (holds t) h
 
-    -- what entry i cites
+    -- the clocks that entry i cites
     module _ (ix : List ℕ) (i : ℕ) where
-      pub machines-are : any t (cited-machines (entryAt s ix i)) ≡ (holds t (textCell s (in-clocks ix i 6)) || holds t (textCell s (in-sync ix i 9)))
-      unfolding entryAt entryBy clocksBy syncBy at
-      machines-are =
-          any-append t (flat (λ c. the (own-machine c)) (its-clocks (entryAt s ix i))) (flat (λ v. the (sync-machine v)) (its-syncs (entryAt s ix i)))
-          ∙ (λ k.
-          any-inside own-machine (clocksBy s (colOf ix i)) (colOf ix i 6) refl (eqb (colOf ix i 4) 0) k
-          || any-synced sync-machine (syncBy s (colOf ix i)) (clocksBy s (colOf ix i)) (colOf ix i 7) (colOf ix i 9) refl refl (eqb (colOf ix i 4) 0) k)
-
       pub clocks-are : any t (cited-clocks (entryAt s ix i)) ≡ (holds t (textCell s (in-clocks ix i 5)) || holds t (textCell s (in-sync ix i 10)))
       unfolding entryAt entryBy clocksBy syncBy at
       clocks-are =

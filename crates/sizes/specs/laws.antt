@@ -1,2 +1,2 @@
--- How 10 comes apart into paths and all else.
+-- How 10 comes apart into paths, names and counts, and what 13 is told.
 pub mod Told

@@ -2,7 +2,7 @@
 ghost use mathlib.Core.Path.{_≡_};
 ghost use Prim.Native.Nat.{_+_, _<_};
 ghost use lib.Dec.{eqb};
-ghost use Rattle.text.specs.Reading.{pick};
+ghost use Rattle.text.specs.Reading.{pick, peek};
 ghost use Rattle.manifest.specs.Names.{bytes};
 ghost use Rattle.values.specs.Strings.{rest, endsIn};
 ghost use Rattle.values.specs.Integer.{integerAt};
@@ -83,6 +83,34 @@ struct Opening {
     next: usize,
 }
 
+// What `head` tells of a string that begins with an escape. Those that stand for a character of ASCII are told first, as they cost least.
+fn escaped_head(s: &[u8], at: usize) -> Opening
+    requires { ⌜ (peek (now s) at ≡ 34) × (peek (now s) (at + 1) ≡ 92) ⌝ }
+    ensures { λ r. ⌜ Heads (now (s .entry)) at (r .letter) (r .next) ⌝ }
+{
+    let a = text::short(s, at + 1);
+    if 0 < a {
+        return Opening {
+            letter: a,
+            next: at + 3,
+        };
+    }
+    let v = values::ascii_escape(s, at + 1);
+    if 0 < v {
+        return Opening {
+            letter: v,
+            next: at + 7,
+        };
+    }
+    match text::character(s, at + 1) {
+        text::Code::Of(v, j) => Opening { letter: v, next: j },
+        text::Code::No(_) => Opening {
+            letter: 128,
+            next: at,
+        },
+    }
+}
+
 // The code point that the string at a position begins with, and where it goes on; 128 if it begins with none of ASCII, is empty, or is none. A byte that is
 // no character by itself and escapes none is a quote, one that no string has, or begins a character that is none of ASCII.
 fn head(s: &[u8], at: usize) -> Opening
@@ -112,10 +140,7 @@ fn head(s: &[u8], at: usize) -> Opening
     }
     // (a copy, so that the slice itself stays in registers: what is handed on has to lie in memory)
     let string = s;
-    match text::character(string, at + 1) {
-        text::Code::Of(v, j) => Opening { letter: v, next: j },
-        text::Code::No(_) => none,
-    }
+    escaped_head(string, at)
 }
 
 // The number of a name that has a length past its first letter, if n is that length; else 13.

@@ -29,6 +29,13 @@ pub at-most-four : (v : ℕ) → length (utf8 v) ≤ 4
 unfolding utf8
 at-most-four v = pick-holds (Within 4) _ (omega arith) (pick-holds (Within 4) _ (omega arith) (pick-holds (Within 4) _ (omega arith) (omega arith)))
 
+abbrev Some : Text → Type 0
+Some x = 0 < length x
+
+pub at-least-one : (v : ℕ) → 0 < length (utf8 v)
+unfolding utf8
+at-least-one v = pick-holds Some _ (omega arith) (pick-holds Some _ (omega arith) (pick-holds Some _ (omega arith) (omega arith)))
+
 one-byte : (v : ℕ) → v < 128 → length (utf8 v) ≤ 1
 unfolding utf8 pick
 one-byte v h = rw (lt-ltb v 128 h) (omega arith)

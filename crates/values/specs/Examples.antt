@@ -6,17 +6,18 @@ use lib.IntN.{pos, negsuc}
 use Rattle.text.specs.Reading.{next, pick, peek, count, run, part, word}
 use Rattle.text.specs.Class.{classOf, whitespace, skip, digit}
 use Rattle.text.specs.Strings.{hexOf, escapeOf, pairOf, quad, low, joined, paired, escape, tail, second, two, three, four, classed, character, utf8, before, onward, characters, string}
+use Rattle.text.specs.Escapes.{packed, longAt}
 use Rattle.text.specs.Numbers.{digits, minus, sign, int, frac, exp, rest, written, number}
 use Rattle.json.specs.Tree.{same}
 use Rattle.values.specs.Stands.{kindBy, kindAt}
-use Rattle.values.specs.Strings.{lengthIn, lengthAt, isText, sameAs, bothText, sameTexts}
+use Rattle.values.specs.Strings.{lengthIn, lengthAt, isText, sameAs, bothText, sameTexts, asciiAt}
 use Rattle.values.specs.Integer.{broken, decimal, signed, integer, ranged, integerIn, integerAt}
 use Rattle.values.specs.declared.Kind.the-variants.{Nothing, Number}
 use Rattle.values.specs.declared.Integer.the-variants.{In, Below, Above, None}
 
 -- what the examples compute with
 opened : Unit {0}
-unfolding next pick peek count run part word classOf whitespace skip digit hexOf escapeOf pairOf quad low joined paired escape tail second two three four classed character utf8 before onward characters string digits minus sign int frac exp rest written number same kindBy kindAt lengthIn lengthAt isText sameAs bothText sameTexts broken decimal signed integer ranged integerIn integerAt
+unfolding next pick peek count run part word classOf whitespace skip digit hexOf escapeOf pairOf quad low joined paired escape tail second two three four classed character utf8 before onward characters string digits minus sign int frac exp rest written number same kindBy kindAt lengthIn lengthAt isText sameAs bothText sameTexts packed longAt asciiAt broken decimal signed integer ranged integerIn integerAt
 opened = tt
 
 -- 9223372036854775807 is the greatest that fits
@@ -82,6 +83,15 @@ four-bytes = refl
 two-spellings : sameTexts (34 ∷ 97 ∷ 34 ∷ 34 ∷ 92 ∷ 117 ∷ 48 ∷ 48 ∷ 54 ∷ 49 ∷ 34 ∷ []) 0 3 ≡ true
 unfolding opened
 two-spellings = refl
+
+-- \\u004d is M, and \\u00e9 is past ASCII
+an-ascii-escape : asciiAt (92 ∷ 117 ∷ 48 ∷ 48 ∷ 52 ∷ 100 ∷ []) 0 ≡ 77
+unfolding opened
+an-ascii-escape = refl
+
+past-ascii : asciiAt (92 ∷ 117 ∷ 48 ∷ 48 ∷ 101 ∷ 57 ∷ []) 0 ≡ 0
+unfolding opened
+past-ascii = refl
 
 -- a string with no end is none
 no-end : lengthAt (34 ∷ 97 ∷ 98 ∷ 99 ∷ []) 0 ≡ 0

@@ -1,11 +1,12 @@
--- The text of the string at a position: its length, and whether it is another text, or its beginning. Assumes nothing.
+-- The text of the string at a position: its length, and whether it is another text, or its beginning; and escapes that stand for ASCII. Assumes nothing.
 use mathlib.Core.Bool.{Bool, true, false}
 use mathlib.Core.List.{[], _∷_}
-use Prim.Native.Nat.{ℕ, suc, _+_}
+use Prim.Native.Nat.{ℕ, suc, _+_, _/_}
 use lib.ListN.{length}
-use lib.Dec.{eqb}
+use lib.Dec.{eqb, ltb}
 use Rattle.text.specs.Reading.{Text, Out, done, bad, deep, pick}
 use Rattle.text.specs.Strings.{characters, string}
+use Rattle.text.specs.Escapes.{longAt}
 use Rattle.json.specs.Tree.{Tree, null, bool, num, str, arr, obj, same}
 
 -- how many bytes were read; 0 where no string stands
@@ -52,6 +53,10 @@ bothText (deep p) o = false
 
 unfoldable pub sameTexts : Text → ℕ → ℕ → Bool
 sameTexts s p q = bothText (string s p) (string s q)
+
+-- the character of ASCII for which the escape of a backslash, a u and four digits at i stands; 0 where none stands, and for the character 0
+unfoldable pub asciiAt : Text → ℕ → ℕ
+asciiAt s i = pick (ltb (longAt s i) 2048) (longAt s i / 16) 0
 
 -- ---- the same of values
 

@@ -8,3 +8,5 @@ pub mod Alike
 pub mod Raws
 pub mod Shapes
 pub mod Standing
+pub mod Fronts
+pub mod Ascii

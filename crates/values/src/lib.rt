@@ -9,11 +9,11 @@ ghost use Rattle.text.specs.Reading.{pick, peek, part};
 ghost use Rattle.text.specs.Class.{digit};
 ghost use Rattle.text.specs.Strings.{utf8};
 ghost use Rattle.values.specs.Stands.{kindBy, kindAt};
-ghost use Rattle.values.specs.Strings.{lengthAt, isText, sameAs, rest, endsIn, bothText, sameTexts};
+ghost use Rattle.values.specs.Strings.{lengthAt, isText, sameAs, rest, endsIn, bothText, sameTexts, asciiAt};
 ghost use Rattle.values.specs.Integer.{whole, broken as brokenOf, decimal, ranged, integer, integerAt};
 ghost use Rattle.text.specs.Escapes.{shortAt};
 ghost use Rattle.text.specs.laws.Plain.{own};
-ghost use Rattle.values.specs.laws.Compared.{startsFrom, endsFrom, Went};
+ghost use Rattle.values.specs.laws.Compared.{startsFrom, endsFrom, Went, Agrees};
 ghost use Rattle.values.specs.laws.Rest.{Coded};
 ghost use Rattle.values.specs.laws.Ordinary.{Ordinary};
 ghost use Rattle.values.specs.laws.Alike.{twice, Alike};
@@ -296,6 +296,14 @@ fn code_at(s: &[u8], i: usize, b: u32) -> u32
     wide_code(s, i, b)
 }
 
+// The character of ASCII for which an escape of a backslash, a u and four digits at a position stands; 0 where none stands, and for the character 0.
+pub fn ascii_escape(s: &[u8], i: usize) -> u32
+    ensures { λ r. ⌜ r ≡ asciiAt (now (s .entry)) i ⌝ }
+{
+    let e = text::long(s, i);
+    if e < 2048 { e / 16 } else { 0 }
+}
+
 // Where what is left of a string ends in a text, with which it agreed up to `start`; past the end of the text if it goes on otherwise. For `begun`, with any characters:
 // those that cost least are tried first, and characters of several bytes that are the same in both are passed in a row.
 fn begun_rest(s: &[u8], from: usize, t: &[u8], start: usize) -> usize
@@ -327,6 +335,17 @@ fn begun_rest(s: &[u8], from: usize, t: &[u8], start: usize) -> usize
             i += 1;
             continue;
         }
+        if b == 92 {
+            let v = ascii_escape(s, i);
+            if 0 < v {
+                if text::byte(t, end) != v {
+                    return other;
+                }
+                end += 1;
+                i += 6;
+                continue;
+            }
+        }
         let n = raw_alike(s, i, t, end, b);
         if 0 < n {
             i += n;
@@ -343,10 +362,21 @@ fn begun_rest(s: &[u8], from: usize, t: &[u8], start: usize) -> usize
     end
 }
 
-// What `begun` gives where each character that decides it is a byte that is one by itself; two more than the text has where another is met first. Only `text::byte` is given the
-// texts, so that they stay in registers through the loop.
+// What `begun_plain` gives of a text of a size where its first n bytes do not decide: two more than its size, and n. Where they are all of it, a string that goes on is another.
+fn undecided(size: usize, n: usize) -> usize
+    requires { ⌜ size < 2 ^ 63 ⌝ }
+    ensures { λ r. ⌜ (n < size → r ≡ size + 2 + n) × (size ≤ n → r ≡ size + 1) ⌝ }
+{
+    if n < size { size + 2 + n } else { size + 1 }
+}
+
+// What `begun` gives where bytes decide it: such as are characters by themselves, or one that differs from the text's and is no backslash. Where another is met first,
+// two more than the text has, and how many bytes were the same. Only `text::byte` is given the texts, so that they stay in registers through the loop.
 fn begun_plain(s: &[u8], from: usize, t: &[u8]) -> usize
-    ensures { λ r. ⌜ (r ≤ length (now (t .entry)) + 1 → r ≡ endsIn (rest (now (s .entry)) from) (now (t .entry))) ⌝ }
+    ensures { λ r. ⌜
+        (r ≤ length (now (t .entry)) + 1 → r ≡ endsIn (rest (now (s .entry)) from) (now (t .entry)))
+        × (length (now (t .entry)) + 2 ≤ r → Agrees (now (s .entry)) from (now (t .entry)) (r - length (now (t .entry)) - 2))
+        ⌝ }
 {
     let mut i = from;
     let mut n = 0;
@@ -355,11 +385,14 @@ fn begun_plain(s: &[u8], from: usize, t: &[u8]) -> usize
         if b == 34 {
             return n;
         }
-        if !ordinary(b) {
-            return t.len() + 2;
+        if b == 92 {
+            return undecided(t.len(), n);
         }
         if text::byte(t, n) != b {
             return t.len() + 1;
+        }
+        if !ordinary(b) {
+            return undecided(t.len(), n);
         }
         i += 1;
         n += 1;
@@ -367,7 +400,7 @@ fn begun_plain(s: &[u8], from: usize, t: &[u8]) -> usize
 }
 
 // How many bytes are left, unescaped, of a string that goes on at a position, if a text begins with them; one more than the text has if it does not, or the string
-// goes wrong. Most strings have only bytes that are characters by themselves; one with another character is compared anew by `begun_rest`.
+// goes wrong. Most strings have only bytes that are characters by themselves; from another character on, one is compared by `begun_rest`.
 pub fn begun(s: &[u8], from: usize, t: &[u8]) -> usize
     ensures { λ r. ⌜ r ≡ endsIn (rest (now (s .entry)) from) (now (t .entry)) ⌝ }
 {
@@ -378,7 +411,8 @@ pub fn begun(s: &[u8], from: usize, t: &[u8]) -> usize
     // (copies, so that the slices themselves stay in registers: what is handed on has to lie in memory)
     let string = s;
     let word = t;
-    begun_rest(string, from, word, 0)
+    let k = n - t.len() - 2;
+    begun_rest(string, from + k, word, k)
 }
 
 // 1 for a plain byte twice, so that they can be counted without a branch.

@@ -7,7 +7,7 @@ use Rattle.cited.proofs.first_rule.Statement.{statement}
 use Rattle.cited.proofs.first_rule.Tie as tie
 
 refusal-19-file-names-no-entry-requires : tie.Need-refusal-19-file-names-no-entry-requires
-refusal-19-file-names-no-entry-requires c κs = c .before .pre
+refusal-19-file-names-no-entry-requires c κs = (c .before .pre .0, c .before .pre .1)
 
 returns : tie.Need-returns
 returns c = is-19 (manifestOf (c .before .before .before .args .s .now) (c .before .before .before .args .ix .now)) (c .before .refusal-19-file-names-no-entry .ensures) (c .if1 .taken)
@@ -19,7 +19,7 @@ returns-2 : tie.Need-returns-2
 returns-2 c = is-20 (manifestOf (c .before .before .before .before .before .args .s .now) (c .before .before .before .before .before .args .ix .now)) (c .before .before .before .refusal-19-file-names-no-entry .ensures) (c .before .before .if1 .left) (c .before .refusal-20-no-machine-of-a-split-file .ensures) (c .if2 .taken)
 
 refusal-21-machine-not-declared-requires : tie.Need-refusal-21-machine-not-declared-requires
-refusal-21-machine-not-declared-requires c κs = c .before .before .before .before .before .pre
+refusal-21-machine-not-declared-requires c κs = (c .before .before .before .before .before .pre .0, c .before .before .before .before .before .pre .1)
 
 returns-3 : tie.Need-returns-3
 returns-3 c = is-21 (manifestOf (c .before .before .before .before .before .before .before .args .s .now) (c .before .before .before .before .before .before .before .args .ix .now)) (c .before .before .before .before .before .refusal-19-file-names-no-entry .ensures) (c .before .before .before .before .if1 .left) (c .before .before .before .refusal-20-no-machine-of-a-split-file .ensures) (c .before .before .if2 .left) (c .before .refusal-21-machine-not-declared .ensures) (c .if3 .taken)
@@ -37,7 +37,7 @@ returns-5 : tie.Need-returns-5
 returns-5 c = is-23 (manifestOf (c .before .before .before .before .before .before .before .before .before .before .before .args .s .now) (c .before .before .before .before .before .before .before .before .before .before .before .args .ix .now)) (c .before .before .before .before .before .before .before .before .before .refusal-19-file-names-no-entry .ensures) (c .before .before .before .before .before .before .before .before .if1 .left) (c .before .before .before .before .before .before .before .refusal-20-no-machine-of-a-split-file .ensures) (c .before .before .before .before .before .before .if2 .left) (c .before .before .before .before .before .refusal-21-machine-not-declared .ensures) (c .before .before .before .before .if3 .left) (c .before .before .before .refusal-22-offset-not-an-integer .ensures) (c .before .before .if4 .left) (c .before .refusal-23-offset-out-of-range .ensures) (c .if5 .taken)
 
 refusal-24-clock-related-to-itself-requires : tie.Need-refusal-24-clock-related-to-itself-requires
-refusal-24-clock-related-to-itself-requires c κs = c .before .before .before .before .before .before .before .before .before .before .before .pre .0
+refusal-24-clock-related-to-itself-requires c κs = (c .before .before .before .before .before .before .before .before .before .before .before .pre .0, c .before .before .before .before .before .before .before .before .before .before .before .pre .2)
 
 returns-6 : tie.Need-returns-6
 returns-6 c = is-24 (manifestOf (c .before .before .before .before .before .before .before .before .before .before .before .before .before .args .s .now) (c .before .before .before .before .before .before .before .before .before .before .before .before .before .args .ix .now)) (c .before .before .before .before .before .before .before .before .before .before .before .refusal-19-file-names-no-entry .ensures) (c .before .before .before .before .before .before .before .before .before .before .if1 .left) (c .before .before .before .before .before .before .before .before .before .refusal-20-no-machine-of-a-split-file .ensures) (c .before .before .before .before .before .before .before .before .if2 .left) (c .before .before .before .before .before .before .before .refusal-21-machine-not-declared .ensures) (c .before .before .before .before .before .before .if3 .left) (c .before .before .before .before .before .refusal-22-offset-not-an-integer .ensures) (c .before .before .before .before .if4 .left) (c .before .before .before .refusal-23-offset-out-of-range .ensures) (c .before .before .if5 .left) (c .before .refusal-24-clock-related-to-itself .ensures) (c .if6 .taken)

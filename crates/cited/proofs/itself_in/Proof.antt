@@ -24,7 +24,7 @@ element-copy-out-reference : tie.Need-element-copy-out-reference
 element-copy-out-reference c = search needs
 
 same-clocks-requires : tie.Need-same-clocks-requires
-same-clocks-requires c κs = search needs
+same-clocks-requires c κs = c .before .before .before .before .before .before .before .pre .2
 
 returns-3 : tie.Need-returns-3
 returns-3 c = some-entry-24 (c .before .before .before .before .before .before .before .before .args .s .now) (c .before .before .before .before .before .before .before .before .args .ix .now) (c .before .before .before .before .before .before .before .before .args .i) (c .before .before .before .before .before .before .col .ensures) (c .before .before .before .before .before .if1 .left) (c .before .before .before .before .col2 .ensures) (c .before .before .before .if2 .left) (c .before .before .before .before .before .before .before .before .pre .0) (c .before .before .before .before .before .before .before .before .pre .1) (c .before .if3 .taken) (c .same-clocks .ensures)

@@ -13,10 +13,10 @@ use Rattle.cited.proofs.refusal_24_clock_related_to_itself.Statement.{s
 use Rattle.cited.proofs.refusal_24_clock_related_to_itself.Tie as tie
 
 abbrev Inv-loop : tie.InvT-loop
-Inv-loop s ix cites n i₀ i = (i ≤ n) × (applies refusal-24-clock-related-to-itself (manifestOf s ix) ≡ fromEntry refusal-24-clock-related-to-itself s ix i)
+Inv-loop s ix cites firsts n i₀ i = (i ≤ n) × (applies refusal-24-clock-related-to-itself (manifestOf s ix) ≡ fromEntry refusal-24-clock-related-to-itself s ix i)
 
 abbrev μ-loop : tie.MeasureT-loop
-μ-loop s ix cites n i₀ i = n - i
+μ-loop s ix cites firsts n i₀ i = n - i
 
 entries-requires : tie.Need-entries-requires Inv-loop μ-loop
 entries-requires c κs = search needs
@@ -26,7 +26,7 @@ unfolding refusal-24-clock-related-to-itself
 loop-holds c = (omega arith, applies-start refusal-24-clock-related-to-itself (c .before .before .args .s .now) (c .before .before .args .ix .now) refl refl)
 
 itself-in-requires : tie.Need-itself-in-requires Inv-loop μ-loop
-itself-in-requires c κs = (omega (arith, few-entries (c .before .before .before .before .args .ix .now), c .before .before .entries .ensures, c .loop-test .taken), c .before .before .before .before .pre)
+itself-in-requires c κs = (omega (arith, few-entries (c .before .before .before .before .args .ix .now), c .before .before .entries .ensures, c .loop-test .taken), c .before .before .before .before .pre .0, c .before .before .before .before .pre .1)
 
 returns : tie.Need-returns Inv-loop μ-loop
 returns c = applies-here refusal-24-clock-related-to-itself (c .before .before .before .before .before .before .args .s .now) (c .before .before .before .before .before .before .args .ix .now) (c .before .before .before .before .entries .ensures) (c .before .before .before .loop .inv .1) (c .before .before .loop-test .taken) (c .before .itself-in .ensures) (c .if1 .taken)

@@ -36,7 +36,7 @@ module _ (e a : Bool) {i n : ℕ} where
 
 -- ---- over all places: what was found so far and the entries from number i on decide
 
-or-moves : (a b c : Bool) → (a || (b || c)) ≡ ((a || b) || c)
+pub or-moves : (a b c : Bool) → (a || (b || c)) ≡ ((a || b) || c)
 or-moves true b c = refl
 or-moves false b c = refl
 

@@ -1,18 +1,20 @@
 -- What the functions promise of each other: a rule in one entry, a size at a position, a path before an entry; and what is read of the paths, with the slots in which they are kept.
 -- Assumes nothing.
 use mathlib.Core.Path.{_≡_}
-use mathlib.Core.Bool.{Bool, not, _||_, _&&_}
+use mathlib.Core.Bool.{Bool, true, false, not, _||_, _&&_}
 use mathlib.Core.List.{List}
 use Prim.Native.Nat.{ℕ, _+_, _*_, _≤_, _<_}
 use lib.Dec.{eqb, ltb}
 use lib.ListN.{length, getD, take, drop}
-use Rattle.text.specs.Reading.{Text}
+use Rattle.text.specs.Reading.{Text, pick}
+use Rattle.json.specs.Tree.{same}
 use Rattle.manifest.specs.View.{one}
-use Rattle.manifest.specs.Rows.{holds, any, path, entries}
+use Rattle.manifest.specs.Rows.{holds, any, path, entries, flat, the, item-name, its-items}
 use Rattle.manifest.specs.Rules.{Rule, has-path}
 use Rattle.index.specs.Index.{colOf, textAt, entryAt, manifestOf}
 use Rattle.prints.specs.Prints.{printAt, pathPrint, front}
 use Rattle.prints.specs.laws.Tables.{Tabled}
+use Rattle.listed.specs.Settled.{firstOf, Settled}
 
 -- rule r applies in entry i
 abbrev pub inEntry : Rule → Text → List ℕ → ℕ → Bool
@@ -72,3 +74,34 @@ pub record Read (s : Text) (ix prints lengths texts : List ℕ) (n : ℕ) : Type
   pub long : Tabled (pathLength s ix) lengths n
   pub room : length texts ≡ 8448
   pub bytes : (j : ℕ) → j < n → slot texts j ≡ front (textAt s (colOf ix j 0))
+
+-- ---- the table of names
+
+-- the first n of 32 positions are those of names, with the print, the length and the first bytes of each
+pub record Table (s firsts prints lengths texts : List ℕ) (n : ℕ) : Type 0 where
+  pub few : n ≤ 32
+  pub long : (length firsts ≡ 32) × (length prints ≡ 32) × (length lengths ≡ 32)
+  pub room : length texts ≡ 8448
+  pub some : (k : ℕ) → k < n → getD firsts k 0 ≡ 0 → ⊥
+  pub none : (k : ℕ) → n ≤ k → getD firsts k 0 ≡ 0
+  pub printed : (k : ℕ) → k < n → getD prints k 0 ≡ printAt s (getD firsts k 0)
+  pub measured : (k : ℕ) → k < n → getD lengths k 0 ≡ length (textAt s (getD firsts k 0))
+  pub bytes : (k : ℕ) → k < n → slot texts k ≡ front (textAt s (getD firsts k 0))
+
+-- the text at p stands first at place r of the first n; or at none of them, and r is n
+pub record Placed (s firsts : List ℕ) (n p r : ℕ) : Type 0 where
+  pub among : r ≤ n
+  pub here : r < n → (any (λ q. same (textAt s p) (textAt s q)) (take n firsts) ≡ true) × (firstOf s (take n firsts) p ≡ getD firsts r 0)
+  pub nowhere : r ≡ n → any (λ q. same (textAt s p) (textAt s q)) (take n firsts) ≡ false
+
+-- the first n places of a table, and an index
+abbrev pub soFar : List ℕ → ℕ → List ℕ → Settled
+soFar firsts n ix = record { firsts = take n firsts; index = ix }
+
+-- the length of the name at p; 1 where there is none, of which no rule speaks
+unfoldable pub sizeAt : Text → ℕ → ℕ
+sizeAt s p = pick (eqb p 0) 1 (length (textAt s p))
+
+-- the names of the items of entry i
+abbrev pub itemNames : Text → List ℕ → ℕ → List Text
+itemNames s ix i = flat (λ v. the (item-name v)) (its-items (entryAt s ix i))

@@ -1,13 +1,13 @@
--- What 10 and 15 say of paths, as rules, so that a loop over the entries judges them as it judges any rule. Assumes nothing.
+-- What 10 and 15 say of paths, and 10 of names, as rules, so that a loop over the entries judges them as it judges any rule. Assumes nothing.
 use mathlib.Core.Path.{_≡_, refl, sym, ap, _∙_}
 use mathlib.Core.Bool.{Bool, true, false, _||_}
 use mathlib.Core.List.{List, [], _∷_}
 use Prim.Native.Nat.{ℕ, suc}
 use lib.ListN.{take}
 use Rattle.manifest.specs.View.{Cell, absent, wrong, many, one}
-use Rattle.manifest.specs.Rows.{Manifest, Entry, trace-file, path, holds, any, anyAt, entries, cited-files}
-use Rattle.manifest.specs.Rules.{Rule, applies, each, nowhere-else, in-trace-time, no-path, has-path}
-use Rattle.sizes.specs.Sizes.{broken-paths}
+use Rattle.manifest.specs.Rows.{Manifest, Entry, trace-file, trace-machine, path, holds, any, anyAt, entries, declared, cited-files, cited-machines}
+use Rattle.manifest.specs.Rules.{Rule, applies, each, nowhere-else, in-trace-time, outside-of, no-path, no-name, has-path}
+use Rattle.sizes.specs.Sizes.{broken-paths, broken-names}
 use Rattle.once.specs.Once.{path-twice}
 
 -- what 10 says of paths, "Paths 1 to 255 bytes": of those that entries have, of those that they cite, and of that of `trace_time`
@@ -26,6 +26,14 @@ paths-15 = record {
   number = 15;
   outside = nowhere-else;
   within = λ m i e. holds (λ v. holds (λ t. any (holds (has-path t)) (take i (entries m))) (path v)) e;
+}
+
+-- what 10 says of names: of those that entries cite or declare, and of that of `trace_time`
+unfoldable pub names-10 : Rule
+names-10 = record {
+  number = 10;
+  outside = in-trace-time (λ t. holds no-name (trace-machine t));
+  within = each (λ e. any no-name (cited-machines e) || any (outside-of 0 64) (declared e));
 }
 
 -- ---- they are what `sizes` and `once` are told
@@ -67,3 +75,7 @@ broken-is m ea eb ec ed er =
 pub twice-is : (m : Manifest) → applies paths-15 m ≡ path-twice m
 unfolding applies paths-15 path-twice
 twice-is m = refl
+
+pub names-are : (m : Manifest) → applies names-10 m ≡ broken-names m
+unfolding applies names-10 broken-names
+names-are m = ap (λ (b : Bool). in-trace-time (λ t. holds no-name (trace-machine t)) m || b) (each-any (λ e. any no-name (cited-machines e) || any (outside-of 0 64) (declared e)) 0 (entries m))

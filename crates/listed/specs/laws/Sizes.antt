@@ -16,7 +16,7 @@ use Rattle.listed.specs.laws.Rules.{own-10, cited-10, trace-10}
 use Rattle.listed.specs.laws.Parts.{inEntry, sizeBroken}
 
 -- the position p of a value inside the value at another position
-abbrev inside : ℕ → ℕ → ℕ
+abbrev pub inside : ℕ → ℕ → ℕ
 inside outer p = pick (eqb outer 0) 0 p
 
 pub inside-none : {outer : ℕ} (p : ℕ) → outer ≡ 0 → 0 ≡ inside outer p
@@ -78,23 +78,23 @@ module _ (s : Text) (ix : List ℕ) where
 -- ---- in an entry
 
 -- one text of a value
-one-text : (t : Text → Bool) (c : Cell Text) → any t (the c ++ []) ≡ holds t c
+pub one-text : (t : Text → Bool) (c : Cell Text) → any t (the c ++ []) ≡ holds t c
 unfolding any the holds
 one-text t absent = refl
 one-text t wrong = refl
 one-text t (many i) = refl
 one-text t (one a) = or-false (t a)
 
--- the `file` of the `sync_to` v of the `clocks` c, which stand unless b
-module _ (t : Text → Bool) (s : Text) (v : SyncTo) (c : Clocks) (q p : ℕ) (e : syncTo c ≡ at q (one v)) (h : sync-file v ≡ textCell s p) where
-  synced : (b : Bool) → any t (flat (λ w. the (sync-file w)) (flat (λ d. the (syncTo d)) (the (pick b absent (one c))))) ≡ holds t (textCell s (inside (pick b 0 q) p))
+-- the text g of the `sync_to` v of the `clocks` c, which stand unless b
+module _ (t : Text → Bool) (s : Text) (g : SyncTo → Cell Text) (v : SyncTo) (c : Clocks) (q p : ℕ) (e : syncTo c ≡ at q (one v)) (h : g v ≡ textCell s p) where
+  pub synced : (b : Bool) → any t (flat (λ w. the (g w)) (flat (λ d. the (syncTo d)) (the (pick b absent (one c))))) ≡ holds t (textCell s (inside (pick b 0 q) p))
   unfolding pick flat the any at holds
   synced true = refl
-  synced false = ap (λ (d : Cell SyncTo). any t (flat (λ w. the (sync-file w)) (the d ++ []))) e ∙ go (eqb q 0)
+  synced false = ap (λ (d : Cell SyncTo). any t (flat (λ w. the (g w)) (the d ++ []))) e ∙ go (eqb q 0)
     where
-      go : (b : Bool) → any t (flat (λ w. the (sync-file w)) (the (pick b absent (one v)) ++ [])) ≡ holds t (textCell s (pick b 0 p))
+      go : (b : Bool) → any t (flat (λ w. the (g w)) (the (pick b absent (one v)) ++ [])) ≡ holds t (textCell s (pick b 0 p))
       go true = refl
-      go false = one-text t (sync-file v) ∙ ap (holds t) h
+      go false = one-text t (g v) ∙ ap (holds t) h
 
 module _ (s : Text) (ix : List ℕ) (i : ℕ) where
   -- where the cited file stands, if `clocks` and `sync_to` do
@@ -103,7 +103,7 @@ module _ (s : Text) (ix : List ℕ) (i : ℕ) where
 
   files-are : any no-path (cited-files (entryAt s ix i)) ≡ holds no-path (textCell s file-at)
   unfolding entryAt entryBy clocksBy syncBy at
-  files-are = synced no-path s (syncBy s (colOf ix i)) (clocksBy s (colOf ix i)) (colOf ix i 7) (colOf ix i 8) refl refl (eqb (colOf ix i 4) 0)
+  files-are = synced no-path s sync-file (syncBy s (colOf ix i)) (clocksBy s (colOf ix i)) (colOf ix i 7) (colOf ix i 8) refl refl (eqb (colOf ix i 4) 0)
 
   cited-are : inEntry cited-10 s ix i ≡ holds no-path (textCell s file-at)
   unfolding cited-10 holds

@@ -5,11 +5,11 @@ use mathlib.Core.List.{List, _++_}
 use Prim.Native.Nat.{ℕ, _+_, _-_, _*_, _≤_, _<_}
 use native.Mathlib.Omega.{arith}
 use native.Mathlib.Decide.{decLt, ℕ-discrete}
-use lib.ListN.{length, getD, set, take, drop, length-append, length-take, length-drop, take-append-drop}
+use lib.ListN.{length, getD, set, take, drop, replicate, length-append, length-take, length-drop, take-append-drop}
 use lib.Seq.{length-take-le, take-at, drop-at, take-append-le, drop-append-le, drop-drop, getD-take, getD-drop, ext-getD}
 use borrow.Author.Count.{below-none, below-more}
-use borrow.Author.Tests.{ne-eqb}
-use Rattle.text.specs.Reading.{Text}
+use borrow.Author.Tests.{eq-eqb, ne-eqb, eqb-true}
+use Rattle.text.specs.Reading.{Text, peek}
 use Rattle.json.specs.Tree.{same}
 use Rattle.json.specs.laws.Order.{same-refl, same-false}
 use Rattle.values.specs.Strings.{sameTexts}
@@ -18,8 +18,9 @@ use Rattle.index.specs.Index.{colOf, textAt, textCell}
 use Rattle.index.specs.laws.Put.{Put, put-length, put-after}
 use Rattle.prints.specs.Prints.{printAt, pathPrint, front}
 use Rattle.prints.specs.laws.Fronts.{front-whole}
+use Rattle.prints.specs.laws.Walks.{no-string}
 use Rattle.prints.specs.laws.Empty.{same-string}
-use Rattle.prints.specs.laws.Prints.{other-print}
+use Rattle.prints.specs.laws.Prints.{other-print, print-tells}
 use Rattle.prints.specs.laws.Tables.{tabled-none, tabled-more}
 use Rattle.finds.specs.laws.Paths.{path-some, path-other}
 use Rattle.listed.specs.laws.Parts.{slot, Kept, Held, Measured, Agree, Counted, pathLength, Read}
@@ -74,6 +75,12 @@ module _ {old w new : List ℕ} (i : ℕ) (room : length old ≡ 8448) (long : l
 pub kept-measured : {s : Text} {p n print i : ℕ} {old new text : List ℕ} → n ≡ length (textAt s p) → print ≡ printAt s p → text ≡ front (textAt s p) → Kept old i text new
     → Measured s p old i new n print
 kept-measured en ep et k = record { long = en; printed = ep; kept = record { room = k .room; here = k .here ∙ et; others = k .others } }
+
+-- no string stands there, and the slot was set to zeros
+pub none-measured : {s : Text} {p i : ℕ} {old new : List ℕ} → (peek s p ≡ 34 → ⊥) → Kept old i (replicate 256 0) new → Measured s p old i new 0 0
+none-measured {s} {p} h k =
+    let w = no-string s p h in
+    kept-measured (w .long) (sym (eqb-true _ _ (print-tells s p refl ∙ eq-eqb _ _ (sym (w .long))))) (w .bytes) k
 
 pub measured-held : {s : Text} {p n print i : ℕ} {old new : List ℕ} → i ≤ 32 → Measured s p old i new n print → Held s new i p n
 measured-held h m = record { room = m .kept .room; among = h; long = m .long; bytes = m .kept .here }

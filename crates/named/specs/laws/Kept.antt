@@ -9,13 +9,12 @@ use lib.Dec.{ltb}
 use lib.ListN.{length, getD, take, set, replicate, length-set, length-map, length-replicate, List·getD-map}
 use lib.Seq.{getD-set-same, getD-set-other, length-take-le, getD-take, ext-getD}
 use borrow.Author.Tests.{eq-eqb, ne-eqb, lt-ltb, le-ltb}
-use Rattle.text.specs.Reading.{Text, Out, done, bad, deep, pick}
+use Rattle.text.specs.Reading.{Text, pick}
 use Rattle.text.specs.laws.Readers.{pick-true, pick-false}
-use Rattle.text.specs.Strings.{string}
 use Rattle.json.specs.Tree.{same}
-use Rattle.values.specs.Strings.{isText, bothText, sameTexts}
+use Rattle.json.specs.laws.Order.{same-refl}
 use Rattle.manifest.specs.Rows.{any}
-use Rattle.index.specs.Index.{textIn, textAt}
+use Rattle.index.specs.Index.{textAt}
 use Rattle.named.specs.Named.{namePrint}
 use Rattle.named.specs.laws.Texts.{known}
 use Rattle.named.specs.laws.Firsts.{knownFrom, known-past}
@@ -86,15 +85,6 @@ module _ (s : Text) where
 
   -- ---- places
 
-  -- two strings that are one text
-  one-text : (o q : Out Text) → bothText o q ≡ true → same (textIn q) (textIn o) ≡ true
-  unfolding bothText isText textIn
-  one-text (done t j) (done u k) h = h
-  one-text (done t j) (bad k) h = let z : _≡_ {A = ℕ} 0 1 = cc in absurd (omega arith)
-  one-text (done t j) (deep k) h = let z : _≡_ {A = ℕ} 0 1 = cc in absurd (omega arith)
-  one-text (bad j) q h = let z : _≡_ {A = ℕ} 0 1 = cc in absurd (omega arith)
-  one-text (deep j) q h = let z : _≡_ {A = ℕ} 0 1 = cc in absurd (omega arith)
-
   any-at : (f : ℕ → Bool) (l : List ℕ) (k : ℕ) → k < length l → f (getD l k 0) ≡ true → any f l ≡ true
   unfolding any
   any-at f [] k h e = absurd (omega arith)
@@ -111,9 +101,9 @@ module _ (s : Text) where
           tells = any-at (λ q. same (textAt s p) (textAt s q)) (take n names) k (omega (arith, length-take-le n names l)) (ap (λ (q : ℕ). same (textAt s p) (textAt s q)) (getD-take n names k 0 h) ∙ e) ∙ sym (lt-ltb k n h);
         }
 
-    pub place-text : {k : ℕ} {b : Bool} → k < n → b ≡ sameTexts s (getD names k 0) p → b ≡ true → Place s p names n k
-    unfolding sameTexts textAt
-    place-text {k} h e f = place-here h (one-text (string s (getD names k 0)) (string s p) (sym e ∙ f))
+    -- p itself stands there
+    pub place-itself : {k : ℕ} → k < n → getD names k 0 ≡ p → Place s p names n k
+    place-itself {k} h e = place-here h (ap (λ (q : ℕ). same (textAt s p) (textAt s q)) e ∙ same-refl (textAt s p))
 
     -- it is none of them
     pub place-none : (k : ℕ) → known s p (take n names) ≡ knownFrom s names p n k → n ≤ k → Place s p names n n

@@ -1,104 +1,222 @@
--- `outline::numbered` meets its contract. The loop's invariant: the names from the k-th on decide. Each name stands between two bounds of the table. Where no
--- quote stands there is no string, so none of them. Assumes nothing.
-use mathlib.Core.Path.{refl, ap, _∙_}
-use Prim.Native.Nat.{_-_}
+-- `outline::numbered` meets its contract: each name begins with one of three words, and what follows the word decides. The words are those of the table. Assumes nothing.
+use mathlib.Core.Path.{refl, sym, ap, _∙_}
 use native.Mathlib.Omega.{arith}
 use lib.ListN.{length}
-use borrow.Author.Needs.{needs}
 use Rattle.text.specs.laws.Peek.{found-lt}
-use Rattle.outline.proofs.Clocks.{Left, rise, some-byte, no-clock, left-start, left-end, left-hit, left-on}
+use Rattle.outline.proofs.Clocks.{no-clock, by-boottime, by-realtime, by-none, by-monotonic, by-none-after, by-raw, word-capitals, word-is, word-behind}
+use borrow.Author.Needs.{needs}
 use Rattle.outline.proofs.numbered.Statement.{statement}
 use Rattle.outline.proofs.numbered.Tie as tie
 
-abbrev Inv-loop : tie.InvT-loop
-Inv-loop s at names first k₀ number₀ k number = Left s at k number
-
-abbrev μ-loop : tie.MeasureT-loop
-μ-loop s at names first k₀ number₀ k number = 6 - k
-
-byte-requires : tie.Need-byte-requires Inv-loop μ-loop
+byte-requires : tie.Need-byte-requires
 byte-requires c κs = search needs
 
-returns : tie.Need-returns Inv-loop μ-loop
-returns c = no-clock (c .before .before .before .before .args .s .now) (c .before .before .before .before .args .at) (λ e. c .if1 .taken (c .before .byte .ensures ∙ e))
+returns : tie.Need-returns
+returns c = no-clock _ _ (λ e. c .if1 .taken (c .before .byte .ensures ∙ e))
 
-add-byte : tie.Need-add-byte Inv-loop μ-loop
-add-byte c = omega (arith, found-lt (c .before .before .before .before .args .s .now) (c .before .before .before .before .args .at) (c .before .byte .ensures) (c .if1 .left) (omega arith))
+add-past : tie.Need-add-past
+add-past c = omega (arith, found-lt (c .before .before .before .before .args .s .now) _ (c .before .byte .ensures) (c .if1 .left) (omega arith))
 
-byte-requires-2 : tie.Need-byte-requires-2 Inv-loop μ-loop
-byte-requires-2 c κs = search needs
+array-read-past : tie.Need-array-read-past
+array-read-past c = search needs
 
-loop-holds : tie.Need-loop-holds Inv-loop μ-loop
-loop-holds c = left-start _ _
+array-read-past-2 : tie.Need-array-read-past-2
+array-read-past-2 c = search needs
 
-mul-from : tie.Need-mul-from Inv-loop μ-loop
-mul-from c = search needs
+sub-past : tie.Need-sub-past
+sub-past c = search needs
 
-array-read-from : tie.Need-array-read-from Inv-loop μ-loop
-array-read-from c = search needs
+part-past-start : tie.Need-part-past-start
+part-past-start c = search needs
 
-add-end : tie.Need-add-end Inv-loop μ-loop
-add-end c = search needs
+part-past-end : tie.Need-part-past-end
+part-past-end c = omega (arith, ap length (c .before .before .before .before .pre))
 
-mul-end : tie.Need-mul-end Inv-loop μ-loop
-mul-end c = search needs
+past-requires : tie.Need-past-requires
+past-requires c κs = (omega arith, word-capitals (c .before .before .before .before .before .pre) 61 69 refl)
 
-array-read-end : tie.Need-array-read-end Inv-loop μ-loop
-array-read-end c = search needs
+ended-requires : tie.Need-ended-requires
+ended-requires c κs = search needs
 
-sub-is-named : tie.Need-sub-is-named Inv-loop μ-loop
-sub-is-named c = omega (arith, rise (c .before .loop .k) (c .loop-test .taken) .0)
+returns-2 : tie.Need-returns-2
+returns-2 c = by-boottime _ _ (sym (c .before .before .before .before .before .byte .ensures) ∙ c .before .before .before .before .if1 .left) (word-behind (c .before .before .before .before .before .before .before .before .pre) 61 69 (c .before .before .past .ensures)) (c .before .if2 .taken) (c .ended .ensures)
 
-part-is-named-start : tie.Need-part-is-named-start Inv-loop μ-loop
-part-is-named-start c = omega (arith, rise (c .before .loop .k) (c .loop-test .taken) .0)
+add-past-2 : tie.Need-add-past-2
+add-past-2 c = omega (arith, found-lt (c .before .before .before .before .before .before .before .args .s .now) _ (c .before .before .before .before .byte .ensures) (c .before .before .before .if1 .left) (omega arith))
 
-part-is-named-end : tie.Need-part-is-named-end Inv-loop μ-loop
-part-is-named-end c = omega (arith, rise (c .before .loop .k) (c .loop-test .taken) .1, ap length (c .before .before .before .before .before .before .before .pre))
+array-read-past-3 : tie.Need-array-read-past-3
+array-read-past-3 c = search needs
 
-is-named-requires : tie.Need-is-named-requires Inv-loop μ-loop
-is-named-requires c κs = (c .before .before .before .byte2 .ensures, some-byte (c .before .before .loop .k) (c .before .loop-test .taken) refl refl (c .before .before .before .before .before .before .before .before .pre))
+array-read-past-4 : tie.Need-array-read-past-4
+array-read-past-4 c = search needs
 
-returns-2 : tie.Need-returns-2 Inv-loop μ-loop
-returns-2 c = left-hit _ _ _ _ (c .before .before .before .before .loop .inv) (c .before .before .before .loop-test .taken) refl refl (c .before .before .before .before .before .before .before .before .before .before .pre) (c .before .is-named .ensures) (c .if2 .taken)
+sub-past-2 : tie.Need-sub-past-2
+sub-past-2 c = search needs
 
-add-k : tie.Need-add-k Inv-loop μ-loop
-add-k c = search needs
+part-past-start-2 : tie.Need-part-past-start-2
+part-past-start-2 c = search needs
 
-add-number : tie.Need-add-number Inv-loop μ-loop
-add-number c = search needs
+part-past-end-2 : tie.Need-part-past-end-2
+part-past-end-2 c = omega (arith, ap length (c .before .before .before .before .before .before .before .pre))
 
-loop-less : tie.Need-loop-less Inv-loop μ-loop
-loop-less c = search needs
+past-requires-2 : tie.Need-past-requires-2
+past-requires-2 c κs = (omega arith, word-capitals (c .before .before .before .before .before .before .before .before .pre) 0 8 refl)
 
-loop-again : tie.Need-loop-again Inv-loop μ-loop
-loop-again c = left-on _ _ _ _ (c .before .before .before .before .loop .inv) (c .before .before .before .loop-test .taken) refl refl (c .before .before .before .before .before .before .before .before .before .before .pre) (c .before .is-named .ensures) (c .if2 .left)
+array-read-coarse : tie.Need-array-read-coarse
+array-read-coarse c = search needs
 
-returns-3 : tie.Need-returns-3 Inv-loop μ-loop
-returns-3 c = left-end _ _ _ _ (c .before .loop .inv) (c .loop-test .left)
+add-coarse : tie.Need-add-coarse
+add-coarse c = search needs
+
+array-read-coarse-2 : tie.Need-array-read-coarse-2
+array-read-coarse-2 c = search needs
+
+sub-coarse : tie.Need-sub-coarse
+sub-coarse c = search needs
+
+part-coarse-start : tie.Need-part-coarse-start
+part-coarse-start c = search needs
+
+part-coarse-end : tie.Need-part-coarse-end
+part-coarse-end c = omega (arith, ap length (c .before .before .before .before .before .before .before .before .before .before .pre))
+
+coarse-requires : tie.Need-coarse-requires
+coarse-requires c κs = (omega arith, omega arith, word-is (c .before .before .before .before .before .before .before .before .before .before .before .pre) 16 23)
+
+returns-3 : tie.Need-returns-3
+returns-3 c = by-realtime _ _ (sym (c .before .before .before .before .before .before .before .before .before .byte .ensures) ∙ c .before .before .before .before .before .before .before .before .if1 .left) (word-behind (c .before .before .before .before .before .before .before .before .before .before .before .before .pre) 0 8 (c .before .before .before .past2 .ensures)) (c .before .before .if3 .taken) (c .coarse .ensures)
+
+add-past-3 : tie.Need-add-past-3
+add-past-3 c = omega (arith, found-lt (c .before .before .before .before .before .before .before .before .before .before .args .s .now) _ (c .before .before .before .before .before .before .before .byte .ensures) (c .before .before .before .before .before .before .if1 .left) (omega arith))
+
+array-read-past-5 : tie.Need-array-read-past-5
+array-read-past-5 c = search needs
+
+array-read-past-6 : tie.Need-array-read-past-6
+array-read-past-6 c = search needs
+
+sub-past-3 : tie.Need-sub-past-3
+sub-past-3 c = search needs
+
+part-past-start-3 : tie.Need-part-past-start-3
+part-past-start-3 c = search needs
+
+part-past-end-3 : tie.Need-part-past-end-3
+part-past-end-3 c = omega (arith, ap length (c .before .before .before .before .before .before .before .before .before .before .pre))
+
+past-requires-3 : tie.Need-past-requires-3
+past-requires-3 c κs = (omega arith, word-capitals (c .before .before .before .before .before .before .before .before .before .before .before .pre) 23 32 refl)
+
+returns-4 : tie.Need-returns-4
+returns-4 c = by-none _ _ (sym (c .before .before .before .before .before .before .before .before .before .before .byte .ensures) ∙ c .before .before .before .before .before .before .before .before .before .if1 .left) (word-behind (c .before .before .before .before .before .before .before .before .before .before .before .before .before .pre) 61 69 (c .before .before .before .before .before .before .before .past .ensures)) (c .before .before .before .before .before .before .if2 .left) (word-behind (c .before .before .before .before .before .before .before .before .before .before .before .before .before .pre) 0 8 (c .before .before .before .before .past2 .ensures)) (c .before .before .before .if3 .left) (word-behind (c .before .before .before .before .before .before .before .before .before .before .before .before .before .pre) 23 32 (c .before .past3 .ensures)) (c .if4 .taken)
+
+array-read-coarse-3 : tie.Need-array-read-coarse-3
+array-read-coarse-3 c = search needs
+
+add-coarse-2 : tie.Need-add-coarse-2
+add-coarse-2 c = search needs
+
+array-read-coarse-4 : tie.Need-array-read-coarse-4
+array-read-coarse-4 c = search needs
+
+sub-coarse-2 : tie.Need-sub-coarse-2
+sub-coarse-2 c = search needs
+
+part-coarse-start-2 : tie.Need-part-coarse-start-2
+part-coarse-start-2 c = search needs
+
+part-coarse-end-2 : tie.Need-part-coarse-end-2
+part-coarse-end-2 c = omega (arith, ap length (c .before .before .before .before .before .before .before .before .before .before .before .before .before .pre))
+
+coarse-requires-2 : tie.Need-coarse-requires-2
+coarse-requires-2 c κs = (omega arith, omega arith, word-is (c .before .before .before .before .before .before .before .before .before .before .before .before .before .before .pre) 41 48)
+
+returns-5 : tie.Need-returns-5
+returns-5 c = by-monotonic _ _ (sym (c .before .before .before .before .before .before .before .before .before .before .before .before .before .byte .ensures) ∙ c .before .before .before .before .before .before .before .before .before .before .before .before .if1 .left) (word-behind (c .before .before .before .before .before .before .before .before .before .before .before .before .before .before .before .before .pre) 23 32 (c .before .before .before .before .past3 .ensures)) (c .before .before .before .if4 .left) (c .before .coarse2 .ensures) (c .if5 .taken)
+
+array-read-past-7 : tie.Need-array-read-past-7
+array-read-past-7 c = search needs
+
+add-past-4 : tie.Need-add-past-4
+add-past-4 c = search needs
+
+array-read-past-8 : tie.Need-array-read-past-8
+array-read-past-8 c = search needs
+
+sub-past-4 : tie.Need-sub-past-4
+sub-past-4 c = search needs
+
+part-past-start-4 : tie.Need-part-past-start-4
+part-past-start-4 c = search needs
+
+part-past-end-4 : tie.Need-part-past-end-4
+part-past-end-4 c = omega (arith, ap length (c .before .before .before .before .before .before .before .before .before .before .before .before .before .before .before .before .pre))
+
+past-requires-4 : tie.Need-past-requires-4
+past-requires-4 c κs = (omega arith, word-capitals (c .before .before .before .before .before .before .before .before .before .before .before .before .before .before .before .before .before .pre) 57 61 refl)
+
+returns-6 : tie.Need-returns-6
+returns-6 c = by-none-after _ _ (sym (c .before .before .before .before .before .before .before .before .before .before .before .before .before .before .before .before .byte .ensures) ∙ c .before .before .before .before .before .before .before .before .before .before .before .before .before .before .before .if1 .left) (word-behind (c .before .before .before .before .before .before .before .before .before .before .before .before .before .before .before .before .before .before .before .pre) 23 32 (c .before .before .before .before .before .before .before .past3 .ensures)) (c .before .before .before .before .before .before .if4 .left) (c .before .before .before .before .coarse2 .ensures) (c .before .before .before .if5 .left) (word-behind (c .before .before .before .before .before .before .before .before .before .before .before .before .before .before .before .before .before .before .before .pre) 57 61 (c .before .past4 .ensures)) (c .if6 .taken)
+
+ended-requires-2 : tie.Need-ended-requires-2
+ended-requires-2 c κs = search needs
+
+returns-7 : tie.Need-returns-7
+returns-7 c = by-raw _ _ (sym (c .before .before .before .before .before .before .before .before .before .before .before .before .before .before .before .before .before .byte .ensures) ∙ c .before .before .before .before .before .before .before .before .before .before .before .before .before .before .before .before .if1 .left) (word-behind (c .before .before .before .before .before .before .before .before .before .before .before .before .before .before .before .before .before .before .before .before .pre) 23 32 (c .before .before .before .before .before .before .before .before .past3 .ensures)) (c .before .before .before .before .before .before .before .if4 .left) (c .before .before .before .before .before .coarse2 .ensures) (c .before .before .before .before .if5 .left) (word-behind (c .before .before .before .before .before .before .before .before .before .before .before .before .before .before .before .before .before .before .before .before .pre) 57 61 (c .before .before .past4 .ensures)) (c .before .if6 .left) (c .ended2 .ensures)
 
 pub numbered-spec : {M : Type 1} → statement M
 numbered-spec =
     tie.close
     (tie.spec
-    Inv-loop
-    μ-loop
     byte-requires
     returns
-    add-byte
-    byte-requires-2
-    loop-holds
-    mul-from
-    array-read-from
-    add-end
-    mul-end
-    array-read-end
-    sub-is-named
-    part-is-named-start
-    part-is-named-end
-    is-named-requires
+    add-past
+    array-read-past
+    array-read-past-2
+    sub-past
+    part-past-start
+    part-past-end
+    past-requires
+    ended-requires
     returns-2
-    add-k
-    add-number
-    loop-less
-    loop-again
-    returns-3)
+    add-past-2
+    array-read-past-3
+    array-read-past-4
+    sub-past-2
+    part-past-start-2
+    part-past-end-2
+    past-requires-2
+    array-read-coarse
+    add-coarse
+    array-read-coarse-2
+    sub-coarse
+    part-coarse-start
+    part-coarse-end
+    coarse-requires
+    returns-3
+    add-past-3
+    array-read-past-5
+    array-read-past-6
+    sub-past-3
+    part-past-start-3
+    part-past-end-3
+    past-requires-3
+    returns-4
+    array-read-coarse-3
+    add-coarse-2
+    array-read-coarse-4
+    sub-coarse-2
+    part-coarse-start-2
+    part-coarse-end-2
+    coarse-requires-2
+    returns-5
+    array-read-past-7
+    add-past-4
+    array-read-past-8
+    sub-past-4
+    part-past-start-4
+    part-past-end-4
+    past-requires-4
+    returns-6
+    ended-requires-2
+    returns-7)

@@ -21,7 +21,7 @@ use Rattle.survey.specs.Survey.{earlyOf, objectRefusal, rootRefusal, surveyOf, 
 use Rattle.reader.specs.Reader.{tableOf}
 use Rattle.reader.specs.laws.Early.{Document, early-refused, early-passed}
 use Rattle.reader.specs.laws.Passed.{Passed, passed, members-refused, many-refused}
-use Rattle.reader.specs.laws.Tables.{zeros, refused-zeros, none-accepted}
+use Rattle.reader.specs.laws.Tables.{zeros, refused-zeros, none-accepted, none-indexed, none-zeros}
 
 -- `Found s n`: there are no bytes; or n is the refusal; or a manifest object has passed, and its index holds it
 pub data Found (s : Text) : ℕ → Type 0 where
@@ -84,9 +84,7 @@ module _ (s : Text) {n : ℕ} (en : n ≡ surveyOf s) {ix : List ℕ} (ei : ix �
   module _ (zero : n ≡ 0) where
     -- no bytes
     pub found-none : length s ≡ 0 → (0 ≡ refusalOf s) × (ix ≡ tableOf s)
-    unfolding tableOf
-    found-none e =
-        (sym (none-accepted s e), left ∙ pick-true _ _ (eq-eqb n 0 zero) ∙ sym (pick-true _ _ (eq-eqb (refusalOf s) 0 (none-accepted s e))))
+    found-none e = (sym (none-accepted s e), left ∙ pick-true _ _ (eq-eqb n 0 zero) ∙ none-indexed s e ∙ sym (none-zeros s e))
 
     -- a manifest object has passed, and the index is its index
     pub record Goes : Type 0 where

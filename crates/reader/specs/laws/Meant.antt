@@ -25,9 +25,11 @@ use Rattle.outline.specs.declared.Standing.the-variants.{At, Refused}
 use Rattle.outline.specs.Outline.{rootAt, versionsAt}
 use Rattle.outline.specs.Theorems.{root-refused, versions-refused}
 use Rattle.members.specs.Members.{memberRefusalAt}
-use Rattle.index.specs.Index.{tooMany, manifestOf}
+use Rattle.index.specs.Index.{indexOf, tooMany, manifestOf}
 use Rattle.index.specs.Theorems.{index-length, zeros-say-nothing}
 use Rattle.survey.specs.Survey.{indexFrom}
+use Rattle.listed.specs.Settled.{settledIn}
+use Rattle.listed.specs.Theorems.{settled-is, settled-length}
 use Rattle.reader.specs.Reader.{tableOf, meaningBy}
 use Rattle.reader.specs.laws.Passed.{Passed, passed, members-refused, index-holds, many-refused}
 use Rattle.reader.specs.laws.Tables.{zeros, refused-zeros, accepted-index, none-zeros}
@@ -67,7 +69,7 @@ few {s} {v} p e = go (tooMany s v) refl
     go false h = h
 
 table-holds : {s : Text} {v : ℕ} (p : Passed s v) → refusalOf s ≡ 0 → manifestOf s (tableOf s) ≡ row manifest (p .members)
-table-holds {s} p e = ap (manifestOf s) (accepted-index s e (p .its-root)) ∙ index-holds p (few p e)
+table-holds {s} {v} p e = ap (manifestOf s) (accepted-index s e (p .its-root)) ∙ settled-is s (indexOf s v) ∙ index-holds p (few p e)
 
 passed-means : {s : Text} {v : ℕ} → Passed s v → refusalOf s ≡ 0 → meaningBy s (tableOf s) ≡ meaningOf s
 unfolding meaningBy
@@ -100,6 +102,6 @@ pub table-long : (s : Text) → length (tableOf s) ≡ 2470
 unfolding tableOf pick
 table-long s = go (eqb (refusalOf s) 0)
   where
-    go : (b : Bool) → length (pick b (indexFrom s (rootAt s)) zeros) ≡ 2470
-    go true = from-long s (rootAt s)
+    go : (b : Bool) → length (pick b (settledIn s (indexFrom s (rootAt s))) zeros) ≡ 2470
+    go true = settled-length s (indexFrom s (rootAt s)) ∙ from-long s (rootAt s)
     go false = length-replicate {A = ℕ} 2470 0

@@ -11,6 +11,7 @@ use Rattle.text.specs.laws.Readers.{pick-true, pick-false}
 use Rattle.places.specs.Places.{firstMember}
 use Rattle.manifest.specs.Rows.{flat}
 use Rattle.manifest.specs.Manifest.{refusalOf}
+use Rattle.outline.specs.declared.Standing.{Standing}
 use Rattle.outline.specs.declared.Standing.the-variants.{At, Refused}
 use Rattle.outline.specs.Outline.{rootFrom, rootAt}
 use Rattle.index.specs.Index.{indexOf, colOf, entriesIn, listed}
@@ -20,6 +21,8 @@ use Rattle.prints.specs.Prints.{pathPrints}
 use Rattle.named.specs.Named.{declaredIn, distinctAt, namesIn, nameTable, namePrint, printTable}
 use Rattle.finds.specs.Finds.{citedBy, citesOf, traceCited, fromOne, ofEntries, lookups, entryCited}
 use Rattle.listed.specs.declared.PathFacts.{PathFacts}
+use Rattle.listed.specs.Settled.{settledIn}
+use Rattle.listed.specs.laws.Alike.{settled-nothing}
 
 abbrev pub zeros : List ℕ
 zeros = replicate 2470 0
@@ -35,10 +38,10 @@ pub refused-zeros : (s : Text) {n : ℕ} → refusalOf s ≡ n → (n ≡ 0 → 
 unfolding tableOf
 refused-zeros s e some = pick-false _ _ (ne-eqb (refusalOf s) 0 (λ q. some (sym e ∙ q)))
 
--- an accepted manifest its index
-pub accepted-index : (s : Text) {v : ℕ} → refusalOf s ≡ 0 → rootAt s ≡ At v → tableOf s ≡ indexOf s v
+-- an accepted manifest its index, with the names settled
+pub accepted-index : (s : Text) {v : ℕ} → refusalOf s ≡ 0 → rootAt s ≡ At v → tableOf s ≡ settledIn s (indexOf s v)
 unfolding tableOf indexFrom
-accepted-index s e r = pick-true _ _ (eq-eqb (refusalOf s) 0 e) ∙ ap (indexFrom s) r
+accepted-index s e r = pick-true _ _ (eq-eqb (refusalOf s) 0 e) ∙ ap (λ (q : Standing). settledIn s (indexFrom s q)) r
 
 -- no bytes are no manifest, and leave zeros
 none-rooted : rootAt [] ≡ Refused
@@ -49,10 +52,19 @@ pub none-accepted : (s : Text) → length s ≡ 0 → refusalOf s ≡ 0
 unfolding refusalOf
 none-accepted s e = pick-true _ _ (eq-eqb (length s) 0 e)
 
+pub none-indexed : (s : Text) → length s ≡ 0 → indexFrom s (rootAt s) ≡ zeros
+unfolding indexFrom
+none-indexed [] e = ap (indexFrom []) none-rooted
+none-indexed (b ∷ s) e = absurd (omega arith)
+
+-- zeros tell of no name
+zeros-settled : (s : Text) → settledIn s zeros ≡ zeros
+unfolding entriesIn pick
+zeros-settled s = settled-nothing s zeros refl refl
+
 pub none-zeros : (s : Text) → length s ≡ 0 → tableOf s ≡ zeros
-unfolding tableOf indexFrom
-none-zeros [] e = pick-true _ _ (eq-eqb (refusalOf []) 0 (none-accepted [] e)) ∙ ap (indexFrom []) none-rooted
-none-zeros (b ∷ s) e = absurd (omega arith)
+unfolding tableOf
+none-zeros s e = pick-true _ _ (eq-eqb (refusalOf s) 0 (none-accepted s e)) ∙ ap (settledIn s) (none-indexed s e) ∙ zeros-settled s
 
 -- zeros name no machine, and cite no entry
 zeros-unnamed : (s : Text) → nameTable s zeros ≡ replicate 32 0

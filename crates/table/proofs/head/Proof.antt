@@ -4,7 +4,7 @@
 use mathlib.Core.Path.{sym, _∙_}
 use native.Mathlib.Omega.{arith}
 use Rattle.text.specs.laws.Peek.{peek-at}
-use Rattle.table.specs.laws.Heads.{heads-end, heads-last, heads-other, heads-plain, heads-none, heads-of, heads-no}
+use Rattle.table.specs.laws.Heads.{heads-end, heads-last, heads-other, heads-plain, heads-none}
 use borrow.Author.Needs.{needs}
 use Rattle.table.proofs.head.Statement.{statement}
 use Rattle.table.proofs.head.Tie as tie
@@ -42,8 +42,8 @@ shared-slice-read-point c = search needs
 point-requires : tie.Need-point-requires
 point-requires c κs = search needs
 
-add-t18 : tie.Need-add-t18
-add-t18 c = search needs
+add-t16 : tie.Need-add-t16
+add-t16 c = search needs
 
 returns-4 : tie.Need-returns-4
 returns-4 c = heads-plain _ _ (sym (peek-at _ _ (omega arith)) ∙ c .before .before .before .before .before .if3 .left) (omega arith) (c .point .ensures) (c .before .before .before .plain .ensures) (c .before .before .if4 .taken)
@@ -57,23 +57,11 @@ shared-slice-read-if5 c = search needs
 returns-5 : tie.Need-returns-5
 returns-5 c = heads-none _ _ (sym (peek-at _ _ (omega arith)) ∙ c .before .before .before .before .before .if3 .left) (omega arith) (c .before .before .before .plain .ensures) (c .before .before .if4 .left) (c .if5 .taken)
 
-add-character : tie.Need-add-character
-add-character c = search needs
-
-character-requires : tie.Need-character-requires
-character-requires c κs = search needs
-
-enum-known-v : tie.Need-enum-known-v
-enum-known-v c = search needs
-
-enum-told : tie.Need-enum-told
-enum-told c = search needs
+escaped-head-requires : tie.Need-escaped-head-requires
+escaped-head-requires c κs = (sym (peek-at _ _ (omega arith)) ∙ c .before .before .before .before .before .if3 .left, sym (peek-at _ _ (omega arith)) ∙ c .if5 .left)
 
 returns-6 : tie.Need-returns-6
-returns-6 c = heads-of _ _ (sym (peek-at _ _ (omega arith)) ∙ c .before .before .before .before .before .before .before .before .before .if3 .left) (c .before .before .before .character .ensures) (omega arith) (c .before .before .before .before .if5 .left) (c .before .v .given .1)
-
-returns-7 : tie.Need-returns-7
-returns-7 c = heads-no _ _ (sym (peek-at _ _ (omega arith)) ∙ c .before .before .before .before .before .before .before .before .if3 .left) (c .before .before .character .ensures) (omega arith) (c .before .before .before .if5 .left) (c .enum-told .given .1)
+returns-6 c = search needs
 
 pub head-spec : {M : Type 1} → statement M
 head-spec =
@@ -90,14 +78,10 @@ head-spec =
     add-point
     shared-slice-read-point
     point-requires
-    add-t18
+    add-t16
     returns-4
     add-if5
     shared-slice-read-if5
     returns-5
-    add-character
-    character-requires
-    enum-known-v
-    enum-told
-    returns-6
-    returns-7)
+    escaped-head-requires
+    returns-6)

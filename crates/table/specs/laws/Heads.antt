@@ -15,7 +15,9 @@ use Rattle.text.specs.Class.{classOf}
 use Rattle.text.specs.Strings.{two, three, four, classed, character, string, codeOf, utf8, before}
 use Rattle.text.specs.declared.Code.{Code}
 use Rattle.text.specs.declared.Code.the-variants.{Of, No}
+use Rattle.text.specs.Escapes.{shortAt}
 use Rattle.text.specs.laws.Class.{class-within}
+use Rattle.text.specs.laws.Escapes.{short-reads, short-at}
 use Rattle.text.specs.laws.Peek.{peek-at, peek-end}
 use Rattle.text.specs.laws.Plain.{own}
 use Rattle.text.specs.laws.Readers.{pick-case, pick-false, bad-done, done-of}
@@ -23,7 +25,8 @@ use Rattle.text.specs.laws.Strings.{character-end, string-none}
 use Rattle.text.specs.laws.Utf8.{second-of}
 use Rattle.json.specs.Tree.{same}
 use Rattle.manifest.specs.laws.Bools.{halves}
-use Rattle.values.specs.Strings.{isText, sameAs, rest}
+use Rattle.values.specs.Strings.{isText, sameAs, rest, asciiAt}
+use Rattle.values.specs.laws.Ascii.{ascii-reads}
 use Rattle.values.specs.laws.Ordinary.{plain-itself}
 use Rattle.values.specs.laws.Outs.{Stops, stops-is, stops-bad, stops-deep}
 use Rattle.values.specs.laws.Rest.{rest-close, rest-char, rest-stops, code-of, code-no, string-is}
@@ -190,10 +193,23 @@ module _ (s : Text) (p : ℕ) where
         go (yes z) = nothing (λ d ds k. ap (λ (o : Out Text). isText o (d ∷ ds)) (string-is s p q ∙ rest-close s (p + 1) z))
         go (no z) = read z _ refl
 
-    -- an escape
-    module _ {x : Code} (ex : x ≡ codeOf (character s (p + 1))) (l : p + 1 < length s) (m : getD s (p + 1) 0 ≡ 92) where
+    -- an escape of two bytes
+    pub heads-short : {v : ℕ} → v ≡ shortAt s (p + 1) → 0 < v → Heads s p v (p + 3)
+    heads-short {v} e h =
+        let k : p + 1 + 2 ≡ p + 3 = omega arith in
+        heads-char (λ (z : peek s (p + 1) ≡ 34). omega (arith, short-at s (p + 1) e h .0)) (short-reads s (p + 1) e h ∙ ap (done v) k)
+
+    -- one that stands for a character of ASCII by its number
+    pub heads-ascii : {v : ℕ} → v ≡ asciiAt s (p + 1) → 0 < v → Heads s p v (p + 7)
+    heads-ascii {v} e h =
+        let w = ascii-reads s (p + 1) e h in
+        let k : p + 1 + 6 ≡ p + 7 = omega arith in
+        heads-char (λ (z : peek s (p + 1) ≡ 34). omega (arith, w .slash)) (w .reads ∙ ap (done v) k)
+
+    -- any escape
+    module _ {x : Code} (ex : x ≡ codeOf (character s (p + 1))) (m : peek s (p + 1) ≡ 92) where
       escaped : peek s (p + 1) ≡ 34 → ⊥
-      escaped e = let a : getD s (p + 1) 0 ≡ peek s (p + 1) = peek-at s (p + 1) l in omega arith
+      escaped e = omega arith
 
       pub heads-of : {v j : ℕ} → x ≡ Of v j → Heads s p v j
       heads-of e = heads-char escaped (code-of _ ex e)

@@ -8,6 +8,7 @@ use Rattle.text.specs.laws.Escapes.{short-reads, short-few}
 use Rattle.values.specs.Strings.{rest}
 use Rattle.values.specs.laws.Compared.{endsFrom}
 use Rattle.values.specs.laws.Ordinary.{inside}
+use Rattle.values.specs.laws.Ascii.{ascii-reads}
 use Rattle.values.proofs.Compare.{ahead, short-open, ends-close, ends-all, ends-more, ends-stop, ends-one-other, ends-one-more, ends-byte-other, ends-byte-more, ends-raws, coded-some, coded-ahead}
 use borrow.Author.Needs.{needs}
 use Rattle.values.proofs.begun_rest.Statement.{statement}
@@ -73,44 +74,65 @@ loop-less-2 c = omega (arith, inside _ _ (c .before .before .before .before .bef
 loop-again-2 : tie.Need-loop-again-2 Inv-loop μ-loop
 loop-again-2 c = (omega (arith, c .before .before .before .before .before .before .before .before .loop-test .taken), ends-byte-more _ _ _ _ (c .before .before .before .before .before .before .before .before .before .loop .inv .1) (c .before .before .before .before .before .byte2 .ensures) (c .before .before .before .before .if3 .left) (c .before .before .before .ordinary .ensures .0 (c .before .before .if4 .taken)) (c .before .byte3 .ensures) (c .if5 .left))
 
+ascii-escape-requires : tie.Need-ascii-escape-requires Inv-loop μ-loop
+ascii-escape-requires c κs = search needs
+
+byte-requires-4 : tie.Need-byte-requires-4 Inv-loop μ-loop
+byte-requires-4 c κs = search needs
+
+returns-4 : tie.Need-returns-4 Inv-loop μ-loop
+returns-4 c = ends-one-other _ _ _ _ (c .before .before .before .before .before .before .before .before .before .before .before .before .loop .inv .1) (λ q. c .before .before .before .before .before .before .before .if3 .left (c .before .before .before .before .before .before .before .before .byte2 .ensures ∙ q)) ((ascii-reads _ _ (c .before .before .before .ascii-escape .ensures) (c .before .before .if7 .taken)) .reads) ((ascii-reads _ _ (c .before .before .before .ascii-escape .ensures) (c .before .before .if7 .taken)) .few) (c .before .byte4 .ensures) (c .if8 .taken)
+
+add-end-3 : tie.Need-add-end-3 Inv-loop μ-loop
+add-end-3 c = omega (arith, c .before .before .before .before .before .before .before .before .before .before .before .loop-test .taken)
+
+add-i-3 : tie.Need-add-i-3 Inv-loop μ-loop
+add-i-3 c = omega (arith, ahead _ ((ascii-reads _ _ (c .before .before .before .ascii-escape .ensures) (c .before .before .if7 .taken)) .reads) .1)
+
+loop-less-3 : tie.Need-loop-less-3 Inv-loop μ-loop
+loop-less-3 c = omega (arith, ahead _ ((ascii-reads _ _ (c .before .before .before .ascii-escape .ensures) (c .before .before .if7 .taken)) .reads) .1)
+
+loop-again-3 : tie.Need-loop-again-3 Inv-loop μ-loop
+loop-again-3 c = (omega (arith, c .before .before .before .before .before .before .before .before .before .before .before .loop-test .taken), ends-one-more _ _ _ _ (c .before .before .before .before .before .before .before .before .before .before .before .before .loop .inv .1) (λ q. c .before .before .before .before .before .before .before .if3 .left (c .before .before .before .before .before .before .before .before .byte2 .ensures ∙ q)) ((ascii-reads _ _ (c .before .before .before .ascii-escape .ensures) (c .before .before .if7 .taken)) .reads) ((ascii-reads _ _ (c .before .before .before .ascii-escape .ensures) (c .before .before .if7 .taken)) .few) (c .before .byte4 .ensures) (c .if8 .left))
+
 raw-alike-requires : tie.Need-raw-alike-requires Inv-loop μ-loop
 raw-alike-requires c κs = search needs
 
-add-i-3 : tie.Need-add-i-3 Inv-loop μ-loop
-add-i-3 c = omega (arith, c .before .raw-alike .ensures .left)
+add-i-4 : tie.Need-add-i-4 Inv-loop μ-loop
+add-i-4 c = omega (arith, c .before .raw-alike .ensures .left)
 
-add-end-3 : tie.Need-add-end-3 Inv-loop μ-loop
-add-end-3 c = omega (arith, c .before .raw-alike .ensures .right)
+add-end-4 : tie.Need-add-end-4 Inv-loop μ-loop
+add-end-4 c = omega (arith, c .before .raw-alike .ensures .right)
 
-loop-less-3 : tie.Need-loop-less-3 Inv-loop μ-loop
-loop-less-3 c = omega (arith, c .before .raw-alike .ensures .left)
+loop-less-4 : tie.Need-loop-less-4 Inv-loop μ-loop
+loop-less-4 c = omega (arith, c .before .raw-alike .ensures .left)
 
-loop-again-3 : tie.Need-loop-again-3 Inv-loop μ-loop
-loop-again-3 c = (omega (arith, c .before .raw-alike .ensures .right), ends-raws _ _ _ _ (c .before .before .before .before .before .before .before .before .before .loop .inv .1) (c .before .raw-alike .ensures))
+loop-again-4 : tie.Need-loop-again-4 Inv-loop μ-loop
+loop-again-4 c = (omega (arith, c .before .raw-alike .ensures .right), ends-raws _ _ _ _ (c .before .before .before .before .before .before .before .before .before .before .loop .inv .1) (c .before .raw-alike .ensures))
 
 wide-code-requires : tie.Need-wide-code-requires Inv-loop μ-loop
-wide-code-requires c κs = (c .before .before .before .before .before .byte2 .ensures, sym (c .before .before .before .before .before .before .before .short .ensures) ∙ omega (arith, c .before .before .before .before .before .before .if1 .left))
+wide-code-requires c κs = (c .before .before .before .before .before .before .byte2 .ensures, sym (c .before .before .before .before .before .before .before .before .short .ensures) ∙ omega (arith, c .before .before .before .before .before .before .before .if1 .left))
 
-returns-4 : tie.Need-returns-4 Inv-loop μ-loop
-returns-4 c = ends-stop _ _ _ _ (c .before .before .before .before .before .before .before .before .before .before .before .loop .inv .1) (λ q. c .before .before .before .before .before .before .if3 .left (c .before .before .before .before .before .before .before .byte2 .ensures ∙ q)) (c .before .wide-code .ensures .none (c .if7 .taken))
+returns-5 : tie.Need-returns-5 Inv-loop μ-loop
+returns-5 c = ends-stop _ _ _ _ (c .before .before .before .before .before .before .before .before .before .before .before .before .loop .inv .1) (λ q. c .before .before .before .before .before .before .before .if3 .left (c .before .before .before .before .before .before .before .before .byte2 .ensures ∙ q)) (c .before .wide-code .ensures .none (c .if10 .taken))
 
 past-code-requires : tie.Need-past-code-requires Inv-loop μ-loop
-past-code-requires c κs = omega (arith, c .before .before .before .before .before .before .before .before .before .before .loop-test .taken)
+past-code-requires c κs = omega (arith, c .before .before .before .before .before .before .before .before .before .before .before .loop-test .taken)
 
 cast-i : tie.Need-cast-i Inv-loop μ-loop
 cast-i c = omega arith
 
-add-i-4 : tie.Need-add-i-4 Inv-loop μ-loop
-add-i-4 c = omega (arith, coded-ahead _ _ (c .before .before .wide-code .ensures) (c .before .if7 .left) .0)
+add-i-5 : tie.Need-add-i-5 Inv-loop μ-loop
+add-i-5 c = omega (arith, coded-ahead _ _ (c .before .before .wide-code .ensures) (c .before .if10 .left) .0)
 
-loop-less-4 : tie.Need-loop-less-4 Inv-loop μ-loop
-loop-less-4 c = omega (arith, coded-ahead _ _ (c .before .before .wide-code .ensures) (c .before .if7 .left) .0, coded-ahead _ _ (c .before .before .wide-code .ensures) (c .before .if7 .left) .1)
+loop-less-5 : tie.Need-loop-less-5 Inv-loop μ-loop
+loop-less-5 c = omega (arith, coded-ahead _ _ (c .before .before .wide-code .ensures) (c .before .if10 .left) .0, coded-ahead _ _ (c .before .before .wide-code .ensures) (c .before .if10 .left) .1)
 
-loop-again-4 : tie.Need-loop-again-4 Inv-loop μ-loop
-loop-again-4 c = (c .past-code .ensures .within, ends-more _ _ _ _ (c .before .before .before .before .before .before .before .before .before .before .before .before .loop .inv .1) (λ q. c .before .before .before .before .before .before .before .if3 .left (c .before .before .before .before .before .before .before .before .byte2 .ensures ∙ q)) (coded-some (c .before .before .wide-code .ensures) (c .before .if7 .left)) (c .past-code .ensures))
+loop-again-5 : tie.Need-loop-again-5 Inv-loop μ-loop
+loop-again-5 c = (c .past-code .ensures .within, ends-more _ _ _ _ (c .before .before .before .before .before .before .before .before .before .before .before .before .before .loop .inv .1) (λ q. c .before .before .before .before .before .before .before .before .if3 .left (c .before .before .before .before .before .before .before .before .before .byte2 .ensures ∙ q)) (coded-some (c .before .before .wide-code .ensures) (c .before .if10 .left)) (c .past-code .ensures))
 
-returns-5 : tie.Need-returns-5 Inv-loop μ-loop
-returns-5 c = ends-all _ _ _ _ (c .before .loop .inv .1) (omega (arith, c .loop-test .left)) (c .before .loop .inv .0)
+returns-6 : tie.Need-returns-6 Inv-loop μ-loop
+returns-6 c = ends-all _ _ _ _ (c .before .loop .inv .1) (omega (arith, c .loop-test .left)) (c .before .loop .inv .0)
 
 pub begun-rest-spec : {M : Type 1} → statement M
 begun-rest-spec =
@@ -136,16 +158,23 @@ begun-rest-spec =
     add-i-2
     loop-less-2
     loop-again-2
-    raw-alike-requires
-    add-i-3
+    ascii-escape-requires
+    byte-requires-4
+    returns-4
     add-end-3
+    add-i-3
     loop-less-3
     loop-again-3
-    wide-code-requires
-    returns-4
-    past-code-requires
-    cast-i
+    raw-alike-requires
     add-i-4
+    add-end-4
     loop-less-4
     loop-again-4
-    returns-5)
+    wide-code-requires
+    returns-5
+    past-code-requires
+    cast-i
+    add-i-5
+    loop-less-5
+    loop-again-5
+    returns-6)

@@ -2,11 +2,12 @@
 use mathlib.Core.Bool.{Bool, _&&_}
 use mathlib.Core.List.{[], _∷_}
 use mathlib.Core.Path.{_≡_}
-use Prim.Native.Nat.{ℕ, _+_, _≤_}
+use Prim.Native.Nat.{ℕ, _+_, _^_, _≤_, _<_}
 use lib.ListN.{length}
 use lib.Dec.{eqb, leb}
 use Rattle.text.specs.Reading.{Text, Out, done, bad, deep, next, pick, peek}
 use Rattle.text.specs.Strings.{before}
+use Rattle.values.specs.Strings.{rest, endsIn}
 
 -- so far the same, and the bytes stand in t from k on
 unfoldable pub startsFrom : Bool → Text → Text → ℕ → Bool
@@ -28,3 +29,9 @@ endsFrom (deep p) t k = length t + 1
 pub record Went (t : Text) (k v r : ℕ) : Type 0 where
   pub within : r ≤ length t + 1
   pub on : (o : Out Text) → endsFrom (next o (before v)) t k ≡ endsFrom o t r
+
+-- a string that goes on at a position is as t for k bytes: what is left of it past these ends in t, where it was the same up to k, as all of it does
+pub record Agrees (s : Text) (from : ℕ) (t : Text) (k : ℕ) : Type 0 where
+  pub within : k ≤ length t
+  pub fits : from + k < 2 ^ 64
+  pub on : endsFrom (rest s (from + k)) t k ≡ endsIn (rest s from) t

@@ -97,7 +97,7 @@ all-stand (x ∷ u) t k f =
     shifted : (j : ℕ) → k + suc j ≡ k + 1 + j
     shifted j = omega arith
 
-part-peek : (s : Text) (i j m : ℕ) → m < j - i → peek (part s i j) m ≡ peek s (i + m)
+pub part-peek : (s : Text) (i j m : ℕ) → m < j - i → peek (part s i j) m ≡ peek s (i + m)
 unfolding part peek
 part-peek s i j m l = getD-take (j - i) (drop i s) m 256 l ∙ getD-drop i s m 256
 

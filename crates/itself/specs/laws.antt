@@ -1,2 +1,0 @@
--- Laws of the definitions, for the proofs and those who build on them.
-pub mod Clocks
