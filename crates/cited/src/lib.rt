@@ -14,7 +14,7 @@ ghost use Rattle.index.specs.Index.{textAt, textCell, offsetCell, entryAt, mani
 ghost use Rattle.prints.specs.Prints.{pathPrints};
 ghost use Rattle.finds.specs.Finds.{citesOf, traceCited, baseAt};
 ghost use Rattle.sizes.specs.Sizes.{broken-paths, broken-names};
-ghost use Rattle.listed.specs.Settled.{settledIn};
+ghost use Rattle.listed.specs.Settled.{settledIn, firstsIn};
 ghost use Rattle.once.specs.Once.{path-twice};
 ghost use Rattle.cited.specs.Cited.{cited-rules};
 ghost use Rattle.cited.specs.Itself.{ownClock, otherClock};
@@ -547,6 +547,7 @@ pub fn refusal(s: &[u8], ix: &mut [usize; 2470]) -> Judged
     ensures twice { λ r. ⌜ r .paths .twice ≡ path-twice (manifestOf (now (s .entry)) (now (ix .exit))) ⌝ }
     ensures names_broken { λ r. ⌜ r .names .broken ≡ broken-names (manifestOf (now (s .entry)) (now (ix .exit))) ⌝ }
     ensures names_empty { λ r. ⌜ r .names .empty ≡ applies refusal-13-empty-machine-name (manifestOf (now (s .entry)) (now (ix .exit))) ⌝ }
+    ensures names_firsts { λ r. ⌜ r .names .firsts ≡ firstsIn (now (s .entry)) (now (ix .entry)) ⌝ }
 {
     let names = listed::names(s, ix);
     let paths = listed::paths(s, ix);

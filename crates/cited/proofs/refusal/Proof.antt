@@ -18,7 +18,7 @@ first-rule-requires : tie.Need-first-rule-requires
 first-rule-requires c κs = (c .before .before .before .before .before .paths .ensures .0, c .before .before .before .before .before .paths .ensures .1 .0, firsts-told (c .before .before .before .before .before .before .before .before .before .before .args .s .now) (c .before .before .before .before .before .before .before .before .before .before .args .ix .now) (c .before .before .before .before .before .before .before .names .ensures .1 .0))
 
 returns : tie.Need-returns
-returns c = (c .before .before .before .before .before .before .before .before .names .ensures .0, (c .first-rule .ensures, (c .before .before .before .before .before .before .paths .ensures .0, (c .before .before .before .before .before .before .paths .ensures .1 .0, (c .before .before .before .before .before .before .paths .ensures .1 .1 .0, (c .before .before .before .before .before .before .paths .ensures .1 .1 .1 .0, (c .before .before .before .before .before .before .paths .ensures .1 .1 .1 .1, (c .before .before .before .before .before .before .before .before .names .ensures .1 .1 .0 ∙ ap broken-names (still-is (c .before .before .before .before .before .before .before .before .before .before .before .args .s .now) (c .before .before .before .before .before .before .before .before .before .before .before .args .ix .now) (c .before .before .before .before .before .before .before .before .names .ensures .0)), c .before .before .before .before .before .before .before .before .names .ensures .1 .1 .1 ∙ ap (applies refusal-13-empty-machine-name) (still-is (c .before .before .before .before .before .before .before .before .before .before .before .args .s .now) (c .before .before .before .before .before .before .before .before .before .before .before .args .ix .now) (c .before .before .before .before .before .before .before .before .names .ensures .0))))))))))
+returns c = (c .before .before .before .before .before .before .before .before .names .ensures .0, (c .first-rule .ensures, (c .before .before .before .before .before .before .paths .ensures .0, (c .before .before .before .before .before .before .paths .ensures .1 .0, (c .before .before .before .before .before .before .paths .ensures .1 .1 .0, (c .before .before .before .before .before .before .paths .ensures .1 .1 .1 .0, (c .before .before .before .before .before .before .paths .ensures .1 .1 .1 .1, (c .before .before .before .before .before .before .before .before .names .ensures .1 .1 .0 ∙ ap broken-names (still-is (c .before .before .before .before .before .before .before .before .before .before .before .args .s .now) (c .before .before .before .before .before .before .before .before .before .before .before .args .ix .now) (c .before .before .before .before .before .before .before .before .names .ensures .0)), (c .before .before .before .before .before .before .before .before .names .ensures .1 .1 .1 ∙ ap (applies refusal-13-empty-machine-name) (still-is (c .before .before .before .before .before .before .before .before .before .before .before .args .s .now) (c .before .before .before .before .before .before .before .before .before .before .before .args .ix .now) (c .before .before .before .before .before .before .before .before .names .ensures .0)), c .before .before .before .before .before .before .before .before .names .ensures .1 .0)))))))))
 
 pub refusal-spec : {M : Type 1} → statement M
 refusal-spec = tie.close (tie.spec names-requires paths-requires first-rule-requires returns)
