@@ -40,7 +40,7 @@ METHODS = re.compile(r"^impl (\w+) \{$", re.M)
 
 
 def crates_below():
-    """The crates that each crate rests on, from crates.txt."""
+    """The crates that each crate names, from crates.txt."""
     below = {}
     for line in open("crates.txt", encoding="utf-8"):
         name, colon, rest = line.partition(":")
@@ -50,6 +50,17 @@ def crates_below():
 
 
 BELOW = crates_below()
+
+
+def reached(crate):
+    """All crates that a crate rests on, through others too."""
+    found = set()
+    todo = [crate]
+    while todo:
+        new = [name for name in BELOW.get(todo.pop(), []) if name not in found]
+        found.update(new)
+        todo += new
+    return found
 
 
 def check(crate, folder):
@@ -263,7 +274,7 @@ def attempts(edits, kept):
     """Tries all edits, by crate, those of different functions together, and a crate without an edit; a line about each and whether it passed."""
     # Those that take longest first, by the size of what is read and checked, so that the processors stay busy to the end.
     size = {crate: sum(f.stat().st_size for f in pathlib.Path("crates", crate).rglob("*.antt")) for crate in BELOW}
-    order = sorted(edits, key=lambda crate: -size[crate] - sum(size.get(name, 0) for name in BELOW[crate]))
+    order = sorted(edits, key=lambda crate: -size[crate] - sum(size.get(name, 0) for name in reached(crate)))
     parts = {crate: together(crate, edits[crate]) for crate in order}
     lists = [(crate, some) for crate in order for some in parts[crate][0]]
     alone = [("numbers", None)] + [(crate, edit) for crate in order for edit in parts[crate][1]]

@@ -19,6 +19,7 @@ A path with other bytes than visible ASCII stands in quotes: "a b\\x00\\"\\\\".
 Empty lines and those that start with # are passed over.
 """
 import re
+import signal
 import sys
 from collections import namedtuple
 
@@ -362,4 +363,6 @@ def main(words):
 
 
 if __name__ == '__main__':
+    # Whoever reads the lines may stop early, as head does.
+    signal.signal(signal.SIGPIPE, signal.SIG_DFL)
     sys.exit(main(sys.argv[1:]))

@@ -12,7 +12,8 @@ ghost use Rattle.manifest.specs.Rules.{refusal-19-file-names-no-entry, refusal-
 ghost use Rattle.manifest.specs.Rules.{refusal-22-offset-not-an-integer, refusal-23-offset-out-of-range, refusal-24-clock-related-to-itself};
 ghost use Rattle.index.specs.Index.{textAt, textCell, offsetCell, entryAt, manifestOf, whoseAt};
 ghost use Rattle.prints.specs.Prints.{pathPrints};
-ghost use Rattle.finds.specs.Finds.{citesOf, traceCited, baseAt};
+ghost use Rattle.index.specs.Cited.{citesOf, traceCited};
+ghost use Rattle.finds.specs.Finds.{baseAt};
 ghost use Rattle.sizes.specs.Sizes.{broken-paths, broken-names};
 ghost use Rattle.listed.specs.Settled.{settledIn, firstsIn};
 ghost use Rattle.once.specs.Once.{path-twice};

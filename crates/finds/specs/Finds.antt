@@ -1,4 +1,4 @@
--- What is found in an index: the entry of a path, the entry that each cites, the item of an id, the name of a file's base machine; and a table of what is asked for often.
+-- What is found in an index: the item of an id, the name of a file's base machine; and a table of what is asked for often.
 -- Assumes nothing.
 use mathlib.Core.List.{List, [], _∷_, _++_, map}
 use Prim.Native.Nat.{ℕ, _+_}
@@ -6,31 +6,12 @@ use lib.Dec.{eqb, ltb}
 use lib.IntN.{pos}
 use lib.ListN.{getD}
 use Rattle.text.specs.Reading.{Text, pick}
-use Rattle.manifest.specs.Rows.{Manifest, id, firstOr, holds, entries, its-items}
-use Rattle.manifest.specs.Rules.{has-path, same-id}
-use Rattle.index.specs.Index.{textAt, colOf, itemOf, entriesIn, listed, entryAt, manifestOf}
+use Rattle.manifest.specs.Rows.{id, firstOr, holds, its-items}
+use Rattle.manifest.specs.Rules.{same-id}
+use Rattle.index.specs.Index.{colOf, itemOf, entriesIn, listed, entryAt}
+use Rattle.index.specs.Cited.{citesOf, traceCited}
 use Rattle.prints.specs.Prints.{pathPrints}
 use Rattle.named.specs.Named.{nameTable, printTable}
-
--- which entry has a path: the first one that has it; 32 if none has
-unfoldable pub entryOf : Manifest → Text → ℕ
-entryOf m t = firstOr 32 (holds (has-path t)) (entries m) 0
-
--- which entry the file at p names; 32 if it names none, or if p is 0
-unfoldable pub entryCited : Text → List ℕ → ℕ → ℕ
-entryCited s ix p = pick (eqb p 0) 32 (entryOf (manifestOf s ix) (textAt s p))
-
--- which entry the `file` of the `sync_to` of entry i names; 32 if it names none, or if there is no such `file`
-abbrev pub citedBy : Text → List ℕ → ℕ → ℕ
-citedBy s ix i = entryCited s ix (colOf ix i 8)
-
--- of entries 0 to 31. (Past the last entry an index has no `file`)
-unfoldable pub citesOf : Text → List ℕ → List ℕ
-citesOf s ix = listed (citedBy s ix) 0 32
-
--- which entry the `file` of `trace_time` names; 32 if it names none, or if there is no such `file`
-abbrev pub traceCited : Text → List ℕ → ℕ
-traceCited s ix = entryCited s ix (getD ix 3 0)
 
 -- a cited entry's number, from 1 on; 0 for none
 unfoldable pub fromOne : ℕ → ℕ

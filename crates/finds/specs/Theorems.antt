@@ -1,6 +1,5 @@
 -- What is found in an index is what the rules find in the manifest that it stands for. Assumes nothing.
 use mathlib.Core.Path.{_≡_, refl}
-use mathlib.Core.Bool.{true}
 use mathlib.Core.List.{List}
 use Prim.Native.Nat.{ℕ, _<_}
 use lib.Dec.{ltb}
@@ -8,30 +7,14 @@ use lib.IntN.{pos}
 use lib.ListN.{getD}
 use Rattle.text.specs.Reading.{Text, pick}
 use Rattle.manifest.specs.View.{absent, one}
-use Rattle.manifest.specs.Rows.{entries, its-items}
-use Rattle.manifest.specs.Rules.{find, named-entry, name-of-id, base}
-use Rattle.index.specs.Index.{textAt, colOf, entriesIn, at, textCell, entryAt, manifestOf, whoseAt}
-use Rattle.finds.specs.Finds.{entryOf, citesOf, nameFor, baseAt}
-use Rattle.finds.specs.laws.Paths.{find-right, named-right, below}
+use Rattle.manifest.specs.Rows.{its-items}
+use Rattle.manifest.specs.Rules.{named-entry, name-of-id, base}
+use Rattle.index.specs.Index.{colOf, textCell, entryAt, manifestOf, whoseAt}
+use Rattle.index.specs.Cited.{citesOf}
+use Rattle.finds.specs.Finds.{nameFor, baseAt}
 use Rattle.finds.specs.laws.Cites.{cites-right}
 use Rattle.finds.specs.laws.Ids.{name-right}
 use Rattle.finds.specs.laws.Bases.{base-right}
-
--- the entry with a path, and its number
-pub find-is : (s : Text) (ix : List ℕ) (t : Text)
-    → find t 0 (entries (manifestOf s ix))
-    ≡ pick (ltb (entryOf (manifestOf s ix) t) 32) (one (entryOf (manifestOf s ix) t, entryAt s ix (entryOf (manifestOf s ix) t))) absent
-find-is s ix t = find-right s ix t
-
--- the entry that the `file` at p names; none, if p is 0
-pub named-entry-is : (s : Text) (ix : List ℕ) (p : ℕ)
-    → named-entry (manifestOf s ix) (textCell s p)
-    ≡ at p (pick (ltb (entryOf (manifestOf s ix) (textAt s p)) 32) (one (entryOf (manifestOf s ix) (textAt s p), entryAt s ix (entryOf (manifestOf s ix) (textAt s p)))) absent)
-named-entry-is s ix p = named-right s ix p
-
--- an entry that is found is one that the index holds
-pub found-below : (s : Text) (ix : List ℕ) (t : Text) → ltb (entryOf (manifestOf s ix) t) 32 ≡ true → entryOf (manifestOf s ix) t < entriesIn ix
-found-below s ix t h = below s ix t h
 
 -- the entry that the `file` of the `sync_to` of entry i names, by the table
 pub cites-is : (s : Text) (ix : List ℕ) (i : ℕ) → i < 32

@@ -1,7 +1,5 @@
 -- Laws of the definitions, for the theorems, the proofs, and those who build on them.
 pub mod Swaps
-pub mod Firsts
-pub mod Paths
 pub mod Cites
 pub mod Lookups
 pub mod Ids

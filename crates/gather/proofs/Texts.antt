@@ -12,7 +12,7 @@ use Rattle.manifest.specs.Rows.{holds}
 use Rattle.index.specs.Index.{textAt, textCell}
 use Rattle.prints.specs.Prints.{front}
 use Rattle.prints.specs.laws.Fronts.{front-whole}
-use Rattle.finds.specs.laws.Paths.{path-some, path-other}
+use Rattle.index.specs.laws.Paths.{path-some, path-other}
 
 -- ---- byte by byte
 

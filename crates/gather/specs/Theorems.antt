@@ -20,7 +20,8 @@ use Rattle.sheet.specs.Accepted.{Accepted, accepted, source-of}
 use Rattle.sheet.specs.declared.Table.{Table}
 use Rattle.sheet.specs.declared.Sheet.the-variants.{Listed}
 use Rattle.index.specs.Index.{listed, manifestOf}
-use Rattle.finds.specs.Finds.{entryOf, lookups}
+use Rattle.index.specs.Cited.{entryOf}
+use Rattle.finds.specs.Finds.{lookups}
 use Rattle.meant.specs.Meant.{baseOf, ownedOf, partOf, linkOf}
 use Rattle.meant.specs.Told.{Tells}
 use Rattle.merged.specs.Facts.{Filed, filed, no-file, noSource, partsOf, said, tieBy, givenBy, fileFact, fileFacts, sourceFact, factsOf}

@@ -2,7 +2,6 @@
 pub mod Links
 pub mod Same
 pub mod Matrix
-pub mod Clear
 pub mod Shape
 pub mod Added
 pub mod Guesses

@@ -175,22 +175,11 @@ fn join_links<'a>(a: &'a [u16], x: &'a [i64], b: &'a [u16], y: &'a [i64], matrix
     }
 }
 
-// Sets all of the memory to zeros.
-fn clear(matrix: &mut [u8])
-    ensures { λ _. ⌜ now (matrix .exit) ≡ replicate (length (now (matrix .entry))) 0 ⌝ }
-{
-    let mut i: usize = 0;
-    while i < matrix.len() {
-        matrix[i] = 0;
-        i += 1;
-    }
-}
-
 // Sets the matrix to zeros and, if it has a byte for each two clocks, joins the two clocks of each correspondence in it.
 pub fn start<'a>(a: &'a [u16], x: &'a [i64], b: &'a [u16], y: &'a [i64], matrix: &mut [u8])
     ensures { λ _. ⌜ now (matrix .exit) ≡ marked (linked (linksOf (now (a .entry)) (now (x .entry)) (now (b .entry)) (now (y .entry)))) (replicate (length (now (matrix .entry))) 0) ⌝ }
 {
-    clear(matrix);
+    zeros::bytes(matrix);
     if matrix.len() != CELLS {
         return;
     }

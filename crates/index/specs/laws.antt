@@ -6,3 +6,5 @@ pub mod Back
 pub mod Many
 pub mod Put
 pub mod Entries
+pub mod Firsts
+pub mod Paths

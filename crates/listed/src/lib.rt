@@ -11,7 +11,7 @@ ghost use Rattle.manifest.specs.Rows.{holds, any, declared, cited-machines};
 ghost use Rattle.manifest.specs.Rules.{applies, no-name, outside-of, is-empty, refusal-13-empty-machine-name};
 ghost use Rattle.index.specs.Index.{entriesIn, itemsIn, listed, textAt, textCell, entryAt, manifestOf};
 ghost use Rattle.prints.specs.Prints.{printAt, pathPrints};
-ghost use Rattle.finds.specs.Finds.{entryCited, citesOf, traceCited};
+ghost use Rattle.index.specs.Cited.{entryCited, citesOf, traceCited};
 ghost use Rattle.sizes.specs.Sizes.{broken-paths, broken-names};
 ghost use Rattle.once.specs.Once.{path-twice};
 ghost use Rattle.listed.specs.laws.Rules.{own-10, cited-10, paths-15};

@@ -12,7 +12,8 @@ use Rattle.manifest.specs.Rows.{traceTime, firstOr, entries}
 use Rattle.manifest.specs.Rules.{base, refusal-5-or-later}
 use Rattle.manifest.specs.Meaning.{Listed, names-in, numberOf, ownsOf, linked, relation, listing, listings, timeline, meant}
 use Rattle.index.specs.Index.{entriesIn, entryAt, manifestOf}
-use Rattle.finds.specs.Finds.{entryOf, lookups}
+use Rattle.index.specs.Cited.{entryOf}
+use Rattle.finds.specs.Finds.{lookups}
 use Rattle.finds.specs.laws.Lookups.{lookups-count}
 use Rattle.meant.specs.Meant.{baseOf, ownedOf, partOf, linkOf, timelineOf}
 use Rattle.meant.specs.Told.{toldOwned, toldPart, Tells}

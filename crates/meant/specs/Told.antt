@@ -11,7 +11,8 @@ use Rattle.manifest.specs.Rows.{firstOr}
 use Rattle.manifest.specs.Rules.{same-id}
 use Rattle.manifest.specs.Meaning.{Owns, nothing, whole-file, parts, Listed, Meaning}
 use Rattle.index.specs.Index.{entriesIn, manifestOf}
-use Rattle.finds.specs.Finds.{entryOf, lookups}
+use Rattle.index.specs.Cited.{entryOf}
+use Rattle.finds.specs.Finds.{lookups}
 use Rattle.named.specs.Named.{countIn}
 use Rattle.meant.specs.declared.Owned.{Owned}
 use Rattle.meant.specs.declared.Owned.the-variants.{Nobody, Whole, Split}

@@ -1,6 +1,8 @@
 -- A merge's answer as plain numbers: the number that is returned, and the four numbers of the summary. Assumes nothing.
 use mathlib.Core.List.{List, [], _∷_}
 use Prim.Native.Nat.{ℕ}
+use lib.ListN.{replicate}
+use Rattle.merged.specs.declared.Summary.{Summary}
 use Rattle.merged.specs.declared.Trace.{Trace}
 use Rattle.merged.specs.declared.Trace.the-variants.{Nothing, On}
 use Rattle.merged.specs.declared.Answer.{Answer}
@@ -20,10 +22,14 @@ unfoldable pub clockOf : Trace → ℕ
 clockOf Nothing = untraced
 clockOf (On c) = c .0
 
--- files, machines, events and the trace-time clock; zeros of a refusal
+-- files, machines, events and the trace-time clock
+unfoldable pub countsOf : Summary → List ℕ
+countsOf s = s .files ∷ s .machines ∷ s .events ∷ clockOf (s .trace) ∷ []
+
+-- what an accepted merge counts; zeros of a refusal
 unfoldable pub summaryOf : Answer → List ℕ
-summaryOf (Refused n) = 0 ∷ 0 ∷ 0 ∷ 0 ∷ []
-summaryOf (Merged s) = s .files ∷ s .machines ∷ s .events ∷ clockOf (s .trace) ∷ []
+summaryOf (Refused n) = replicate 4 0
+summaryOf (Merged s) = countsOf s
 
 -- the events of an answer
 unfoldable pub eventsIn : Answer → ℕ

@@ -5,8 +5,9 @@ ghost use lib.IntN.{pos};
 ghost use lib.ListN.{length, replicate};
 ghost use Rattle.merged.specs.Merged.{merged};
 ghost use Rattle.merge.specs.Memories.{roomOf};
-ghost use Rattle.narguvesh_c.specs.Plain.{numberOf, clockOf, summaryOf, eventsIn};
+ghost use Rattle.narguvesh_c.specs.Plain.{numberOf, clockOf, countsOf, summaryOf, eventsIn};
 use merged::Answer;
+use merged::Summary;
 use merged::Trace;
 
 // What is told of a sheet without files. specs/Plain.antt says the same of `untraced`.
@@ -29,6 +30,27 @@ fn clock_number(trace: Trace) -> u32
     }
 }
 
+// What an accepted merge counts, as the summary has it.
+fn counted(s: Summary) -> [u32; 4]
+    requires { ⌜ s .events < 4294967296 ⌝ }
+    ensures { λ r. ⌜ r ≡ countsOf s ⌝ }
+{
+    let files = wide(s.files);
+    let machines = wide(s.machines);
+    let events = s.events as u32;
+    let trace = s.trace;
+    let clock = clock_number(trace);
+    [files, machines, events, clock]
+}
+
+// Zeroes the summary.
+fn clear(summary: &mut [u32; 4])
+    ensures { λ _. ⌜ now (summary .exit) ≡ replicate 4 0 ⌝ }
+{
+    let zeros: [u32; 4] = [0; 4];
+    *summary = zeros;
+}
+
 // Writes the summary, and gives the refusal's number, 0 of an accepted merge.
 fn tell(answer: Answer, summary: &mut [u32; 4]) -> u8
     requires { ⌜ eventsIn answer < 4294967296 ⌝ }
@@ -36,17 +58,11 @@ fn tell(answer: Answer, summary: &mut [u32; 4]) -> u8
 {
     match answer {
         Answer::Refused(n) => {
-            let zeros: [u32; 4] = [0; 4];
-            *summary = zeros;
+            clear(summary);
             n
         }
         Answer::Merged(s) => {
-            let files = wide(s.files);
-            let machines = wide(s.machines);
-            let events = s.events as u32;
-            let trace = s.trace;
-            let clock = clock_number(trace);
-            let told: [u32; 4] = [files, machines, events, clock];
+            let told = counted(s);
             *summary = told;
             0
         }

@@ -2,10 +2,9 @@
 use mathlib.Core.Path.{_≡_, refl, sym, ap, subst, _∙_}
 use mathlib.Core.Bool.{Bool, true, false, _||_, true≢false, or-true, or-false}
 use mathlib.Core.List.{List, [], _∷_, _++_, append-nil, append-assoc}
-use Prim.Native.Nat.{ℕ, zero, suc, _+_, _*_, _-_, _≤_, _<_, min}
+use Prim.Native.Nat.{ℕ, zero, suc, _+_, _-_, _≤_, _<_}
 use native.Mathlib.Omega.{arith}
 use native.Mathlib.Decide.{ℕ-discrete, decLt}
-use native.Mathlib.Nat.{min-le-left}
 use lib.Dec.{eqb}
 use lib.ListN.{length, getD, take, drop, set, length-set, drop-of-length-le}
 use lib.Seq.{drop-cons, getD-take, length-take-le, take-suc-set}
@@ -15,7 +14,7 @@ use mir.Syntax.{w64}
 use mir.Val.{ofZ, toZ, SFits}
 use mir.Facts.{toZ-ofZ}
 use borrow.Author.Tests.{eq-eqb, ne-eqb, ltb-false}
-use Rattle.text.specs.Reading.{Text, pick}
+use Rattle.text.specs.Reading.{Text}
 use Rattle.values.specs.Integer.{integerAt}
 use Rattle.values.specs.declared.Integer.{Integer}
 use Rattle.values.specs.declared.Integer.the-variants.{In, Below, Above, None}
@@ -23,7 +22,8 @@ use Rattle.manifest.specs.View.{Cell}
 use Rattle.manifest.specs.Rows.{ids, the, holds, any, flat}
 use Rattle.manifest.specs.Rules.{no-id, same-id, twice-in, refusal-14-id-out-of-range}
 use Rattle.manifest.specs.laws.Bools.{halves}
-use Rattle.index.specs.Index.{colOf, itemOf, itemsIn, idCell, entryAt}
+use Rattle.index.specs.Index.{itemOf, itemsIn, idCell, entryAt}
+use Rattle.index.specs.laws.Paths.{few-items}
 use Rattle.once.specs.Once.{twice-rule}
 use Rattle.once.specs.laws.Parts.{inEntry, idsFrom, idOf, idsIn, Numbered}
 use Rattle.once.proofs.Ids.{Out-of-64, below, above, id-none, id-in, id-out, id-wrong}
@@ -118,14 +118,6 @@ flat-more : (l : List ℕ) (v : ℕ) → flat idOf (l ++ v ∷ []) ≡ flat idOf
 unfolding flat
 flat-more [] v = append-nil (idOf v)
 flat-more (a ∷ l) v = ap (λ (k : List ℤ). idOf a ++ k) (flat-more l v) ∙ sym (append-assoc (idOf a) (flat idOf l) (idOf v))
-
-few-items : (ix : List ℕ) (i : ℕ) → itemsIn ix i ≤ 32
-unfolding itemsIn pick
-few-items ix i = go (eqb (colOf ix i 3) 0)
-  where
-    go : (b : Bool) → pick b 0 (min 32 (getD ix (6 + (77 * i + 12)) 0)) ≤ 32
-    go true = omega arith
-    go false = min-le-left 32 _
 
 -- the ids of the first k items are in the table, and those that are left decide whether one is out of range
 pub record Reading (s : Text) (ix : List ℕ) (i k : ℕ) (table : List ℕ) : Type 0 where

@@ -3,7 +3,7 @@ ghost use mathlib.Core.Path.{_≡_};
 ghost use mathlib.Core.Bool.{false};
 ghost use mathlib.Core.List.{_++_};
 ghost use Prim.Native.Nat.{ℕ, _+_, _*_, _≤_, _<_};
-ghost use lib.ListN.{length, getD, drop, replicate};
+ghost use lib.ListN.{length, getD, drop};
 ghost use Rattle.numbers.specs.Numbers.{clocks};
 ghost use Rattle.paths.specs.Matrix.{pairOf, isGraph, held, graphOf, distances, nexts, along, traced};
 ghost use Rattle.paths.specs.laws.Graph.{Whole};
@@ -282,17 +282,6 @@ pub fn search(matrix: &[u8], n: usize, target: usize) -> Found
     Found { dist, next }
 }
 
-// Sets all of out to zeros.
-fn clear(out: &mut [u16])
-    ensures { λ _. ⌜ now (out .exit) ≡ replicate (length (now (out .entry))) 0 ⌝ }
-{
-    let mut i: usize = 0;
-    while i < out.len() {
-        out[i] = 0;
-        i += 1;
-    }
-}
-
 // Writes the clocks of k steps from c to the start of out, c left out.
 fn follow(next: &[u16; numbers::CLOCKS], c: usize, k: usize, out: &mut [u16])
     requires { ⌜ ((i : ℕ) → i < clocks → getD (now next) i 0 < clocks) ⌝ }
@@ -313,7 +302,7 @@ pub fn path(matrix: &[u8], n: usize, target: usize, from: usize, out: &mut [u16]
     ensures answer { λ r. ⌜ r ≡ traced (graphOf (now (matrix .entry)) n target) from (length (now (out .entry))) .answer ⌝ }
     ensures written { λ _. ⌜ now (out .exit) ≡ traced (graphOf (now (matrix .entry)) n target) from (length (now (out .entry))) .out ⌝ }
 {
-    clear(out);
+    zeros::shorts(out);
     if numbers::CLOCKS <= from {
         return Route::Nowhere;
     }

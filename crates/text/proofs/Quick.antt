@@ -2,18 +2,17 @@
 -- Assumes nothing.
 use mathlib.Core.Path.{_≡_, refl, sym, ap, _∙_}
 use mathlib.Core.Bool.{Bool, true, false, not, _&&_, _||_}
-use Prim.Native.Nat.{ℕ, zero, suc, _+_, _-_, _≤_, _<_}
-use native.Mathlib.Nat.{add-zero, le-of-suc-le-suc, not-suc-le-zero}
+use Prim.Native.Nat.{ℕ, _+_, _-_, _≤_, _<_}
 use native.Mathlib.Omega.{arith}
 use lib.ListN.{length, getD}
-use lib.Dec.{leb, ltb, eqb, T, eqb→eq}
+use lib.Dec.{leb, ltb, eqb, T}
 use borrow.Author.Tests.{leb-true, leb-false, ltb-true, ltb-false, le-leb, lt-leb, le-ltb, lt-ltb, eq-eqb, ne-eqb}
 use Rattle.text.specs.Reading.{Text, done, pick, peek}
 use Rattle.text.specs.Class.{classOf, whitespace, digit}
 use Rattle.text.specs.Strings.{character}
 use Rattle.text.specs.laws.Peek.{peek-at}
 use Rattle.text.specs.laws.Plain.{own}
-use Rattle.text.specs.laws.Bytes.{agree, both, classes}
+use Rattle.text.specs.laws.Bytes.{agree, classes}
 use Rattle.text.specs.laws.ClassTable.{white-bytes, digit-bytes}
 use Rattle.text.specs.laws.Strings.{character-plain}
 
@@ -99,21 +98,3 @@ other-was s i l h = ap own (peek-at s i l) ∙ h
 -- a byte of the class k that is none
 pub no-plain : (b : ℕ) {k : ℕ} {r : Bool} → k ≡ classOf b → r ≡ own b → r ≡ false → (ltb k 4 || ltb 17 k) ≡ true
 no-plain b f e h = ap (λ (k : ℕ). ltb k 4 || ltb 17 k) f ∙ outside (classOf b) (sym e ∙ h)
-
--- all numbers from lo on, n of them, have class k
-abbrev pub kept : ℕ → ℕ → ℕ → Bool
-kept k lo zero = true
-kept k lo (suc n) = eqb (classOf lo) k && kept k (suc lo) n
-
-kept-at : (k n lo j : ℕ) → T (kept k lo n) → j < n → classOf (lo + j) ≡ k
-kept-at k zero lo j h l = absurd (not-suc-le-zero l)
-kept-at k (suc n) lo zero h l = ap classOf (add-zero lo) ∙ eqb→eq (classOf lo) k (both (eqb (classOf lo) k) (kept k (suc lo) n) h .0)
-kept-at k (suc n) lo (suc j) h l =
-    let q : lo + suc j ≡ suc lo + j = omega arith in
-    ap classOf q ∙ kept-at k n (suc lo) j (both (eqb (classOf lo) k) (kept k (suc lo) n) h .1) (le-of-suc-le-suc l)
-
--- the class of a byte between two bounds
-pub class-between : (lo hi k : ℕ) → T (kept k lo (suc hi - lo)) → (b : ℕ) → lo ≤ b → b ≤ hi → k ≡ classOf b
-class-between lo hi k h b l m =
-    let q : lo + (b - lo) ≡ b = omega arith in
-    sym (ap classOf (sym q) ∙ kept-at k (suc hi - lo) lo (b - lo) h (omega arith))

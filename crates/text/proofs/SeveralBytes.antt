@@ -13,7 +13,7 @@ use Rattle.text.specs.Strings.{tail, second, two, three, four, classed, 
 use Rattle.text.specs.Raw.{pastRaw}
 use Rattle.text.specs.Escapes.{bytesIn, severalAt}
 use Rattle.text.specs.laws.Peek.{peek-at, peek-end}
-use Rattle.text.specs.laws.Plain.{own, pastOwn, own-step, own-stop, own-past, own-ge}
+use Rattle.text.specs.laws.Plain.{own, pastOwn, own-step, own-stop, own-past}
 use Rattle.text.specs.laws.Readers.{pick-true, pick-false}
 use Rattle.text.specs.laws.Strings.{character-past, character-end}
 use Rattle.text.specs.laws.Raw.{raw-step, raw-stop, raw-escape, Wide, wide-none, wide-some}
@@ -144,11 +144,7 @@ pub raw-own : (s : Text) (i : ℕ) {k : ℕ} → k ≡ pastOwn s i → pastRaw s
 raw-own s i e = own-turns (length s) s i (omega arith) ∙ ap (pastRaw s) (sym e)
 
 module _ (s : Text) (i : ℕ) (l : i < length s) {r : Bool} (e : r ≡ own (getD s i 0)) where
-  -- a plain byte is passed
-  pub own-ahead : {k : ℕ} → r ≡ true → k ≡ pastOwn s i → i < k
-  own-ahead {k} h f = let q : k ≡ pastOwn s (i + 1) = f ∙ own-step s i l e h in omega (arith, own-ge s (i + 1))
-
-  -- another below 128 is not
+  -- a byte below 128 that is not plain is not passed
   pub raw-odd : r ≡ false → getD s i 0 < 128 → pastRaw s i ≡ i
   raw-odd h m = go (eqb (getD s i 0) 92) refl
     where

@@ -3,7 +3,7 @@ ghost use mathlib.Core.Path.{_≡_};
 ghost use mathlib.Core.List.{_++_};
 ghost use Prim.Native.Nat.{_+_, _-_, _*_, _≤_, _<_};
 ghost use lib.IntN.{pos};
-ghost use lib.ListN.{length, take, getD, replicate};
+ghost use lib.ListN.{length, take, getD};
 ghost use Rattle.manifest.specs.Names.{bytes};
 ghost use Rattle.merged.specs.Merged.{padded};
 ghost use Rattle.written.specs.Written.{decimal, signed, traceText, firstLine, eventLine, eventsOf, eventLines, linesIn};
@@ -138,17 +138,6 @@ pub fn event_line(k: usize, time: i64, kind: u8, steps: u16, out: &mut [u8; 96])
     put(b"\n", b, out)
 }
 
-// Sets all of a memory to zeros.
-fn clear(out: &mut [u8])
-    ensures { λ _. ⌜ now (out .exit) ≡ replicate (length (now (out .entry))) 0 ⌝ }
-{
-    let mut i: usize = 0;
-    while i < out.len() {
-        out[i] = 0;
-        i += 1;
-    }
-}
-
 // The first n bytes of a line's memory are put into the memory of all lines; the place past them.
 fn put_in(line: &[u8; 96], n: usize, at: usize, out: &mut [u8]) -> usize
     requires { ⌜ (n ≤ length (now line)) × (at + 96 ≤ length (now out)) ⌝ }
@@ -249,7 +238,7 @@ pub fn lines<'a>(
     ensures { λ r. ⌜ now (out .exit) ≡ padded 0 (length (now (out .entry))) (linesIn (length (now (out .entry))) answer (now (times .entry)) (now (kinds .entry)) (now (steps .entry))) ⌝ }
     ensures { λ r. ⌜ r ≤ length (now (out .exit)) ⌝ }
 {
-    clear(out);
+    zeros::bytes(out);
     let n = events_of(answer);
     if n < out.len() / 96 {
         let at = put_first(answer, out);

@@ -1,2 +1,3 @@
 -- Laws for the proofs.
+pub mod Clear
 pub mod Fronts

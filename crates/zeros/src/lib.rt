@@ -1,4 +1,4 @@
-// The memories that a caller lends, set to zeros.
+// Memories set to zeros: one of a kind of number, or all that a caller lends.
 ghost use mathlib.Core.Path.{_≡_};
 ghost use mathlib.Core.List.{_++_};
 ghost use Prim.Native.Nat.{_-_, min};
@@ -16,19 +16,19 @@ pub fn bytes(out: &mut [u8])
     }
 }
 
-// A memory of numbers of 16 bits.
-fn clear_shorts(shorts: &mut [u16])
-    ensures { λ _. ⌜ now (shorts .exit) ≡ replicate (length (now (shorts .entry))) 0 ⌝ }
+// Sets a memory of numbers of 16 bits to zeros.
+pub fn shorts(numbers: &mut [u16])
+    ensures { λ _. ⌜ now (numbers .exit) ≡ replicate (length (now (numbers .entry))) 0 ⌝ }
 {
     let mut i: usize = 0;
-    while i < shorts.len() {
-        shorts[i] = 0;
+    while i < numbers.len() {
+        numbers[i] = 0;
         i += 1;
     }
 }
 
-// A memory of times.
-fn clear_times(times: &mut [i64])
+// Sets a memory of times to zeros.
+pub fn longs(times: &mut [i64])
     ensures { λ _. ⌜ now (times .exit) ≡ replicate (length (now (times .entry))) (pos 0) ⌝ }
 {
     let mut i: usize = 0;
@@ -61,9 +61,9 @@ fn clear_outputs(machines: &mut [u8], times: &mut [i64], kinds: &mut [u8], steps
     ensures steps { λ _. ⌜ now (steps .exit) ≡ replicate (length (now (steps .entry))) 0 ⌝ }
 {
     bytes(machines);
-    clear_times(times);
+    longs(times);
     bytes(kinds);
-    clear_shorts(steps);
+    shorts(steps);
 }
 
 // Sets the work memories to zeros, the matrix past its first `kept` bytes.
@@ -73,8 +73,8 @@ pub fn work(kept: usize, matrix: &mut [u8], readings: &mut [i64], clocks: &mut [
     ensures clocks { λ _. ⌜ now (clocks .exit) ≡ replicate (length (now (clocks .entry))) 0 ⌝ }
 {
     clear_past(kept, matrix);
-    clear_times(readings);
-    clear_shorts(clocks);
+    longs(readings);
+    shorts(clocks);
 }
 
 // Sets all lent memories to zeros.

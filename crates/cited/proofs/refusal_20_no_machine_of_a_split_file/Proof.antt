@@ -1,7 +1,7 @@
 -- `cited::refusal_20_no_machine_of_a_split_file` meets its contract: the invariant is that the entries from number i on decide.
 -- Assumes nothing.
 use borrow.Author.Needs.{needs}
-use Rattle.finds.specs.laws.Paths.{few-entries}
+use Rattle.index.specs.laws.Paths.{few-entries}
 use mathlib.Core.Path.{_≡_, refl}
 use Prim.Native.Nat.{_-_, _≤_}
 use native.Mathlib.Omega.{arith}

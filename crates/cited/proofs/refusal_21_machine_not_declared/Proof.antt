@@ -1,6 +1,6 @@
 -- `cited::refusal_21_machine_not_declared` meets its contract: what stands outside the entries is asked first; then the invariant is that the entries from number i on decide.
 -- Assumes nothing.
-use Rattle.finds.specs.laws.Paths.{few-entries}
+use Rattle.index.specs.laws.Paths.{few-entries}
 use mathlib.Core.Path.{_≡_}
 use Prim.Native.Nat.{_-_, _≤_}
 use native.Mathlib.Omega.{arith}

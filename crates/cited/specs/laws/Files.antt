@@ -14,8 +14,8 @@ use Rattle.manifest.specs.View.{Cell, absent, one}
 use Rattle.manifest.specs.Rows.{Entry, is-absent, holds}
 use Rattle.manifest.specs.Rules.{named-entry, no-entry}
 use Rattle.index.specs.Index.{textAt, colOf, at, textCell, entryAt, manifestOf}
-use Rattle.finds.specs.Finds.{entryOf, citesOf, traceCited, entryCited}
-use Rattle.finds.specs.Theorems.{find-is, named-entry-is}
+use Rattle.index.specs.Cited.{entryOf, citesOf, traceCited, entryCited}
+use Rattle.index.specs.Theorems.{find-is, named-entry-is}
 use Rattle.finds.specs.laws.Cites.{cited-some, cites-at, cites-right}
 use Rattle.cited.specs.laws.Cells.{holds-none, holds-some}
 

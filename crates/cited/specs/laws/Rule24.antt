@@ -8,7 +8,7 @@ use Rattle.text.specs.Reading.{Text}
 use Rattle.manifest.specs.Rows.{Entry, Clocks, SyncTo, syncTo, sync-file, holds}
 use Rattle.manifest.specs.Rules.{same-clock, source, reference, named-entry, refusal-24-clock-related-to-itself}
 use Rattle.index.specs.Index.{colOf, syncBy, clocksBy, entryAt, manifestOf}
-use Rattle.finds.specs.Finds.{citesOf}
+use Rattle.index.specs.Cited.{citesOf}
 use Rattle.cited.specs.Itself.{ownClock, otherClock}
 use Rattle.cited.specs.laws.Cells.{holds-none, holds-some}
 use Rattle.cited.specs.laws.Within.{withinAt, no-clocks, some-clocks}

@@ -12,8 +12,8 @@ use Rattle.manifest.specs.View.{absent}
 use Rattle.manifest.specs.Rules.{named-entry}
 use Rattle.index.specs.Index.{textAt, colOf, at, textCell, manifestOf}
 use Rattle.prints.specs.laws.Tables.{table-at}
-use Rattle.finds.specs.Finds.{entryOf, citedBy, citesOf, entryCited}
-use Rattle.finds.specs.laws.Paths.{foundAt, named-right}
+use Rattle.index.specs.Cited.{entryOf, citedBy, citesOf, entryCited}
+use Rattle.index.specs.laws.Paths.{foundAt, named-right}
 
 module _ (s : Text) (ix : List ℕ) (i : ℕ) where
   -- p is where the `file` stands

@@ -25,7 +25,7 @@ use Rattle.index.specs.Index.{wholeIn, wholeAt, itemOf, itemsIn, at, textCell, 
 use Rattle.index.specs.laws.Entries.{from, itemAt, items-are}
 use Rattle.finds.specs.Finds.{itemWith, nameFor}
 use Rattle.finds.specs.laws.Swaps.{eqb-swap}
-use Rattle.finds.specs.laws.Firsts.{first-past, first-found, first-on}
+use Rattle.index.specs.laws.Firsts.{first-past, first-found, first-on}
 
 -- ---- when an integer is an id
 

@@ -18,7 +18,8 @@ use Rattle.named.specs.Named.{nameTable, printTable, namePrint, countIn, number
 use Rattle.named.specs.Theorems.{table-length, count-is, number-is}
 use Rattle.prints.specs.laws.Tables.{table-at}
 use Rattle.named.specs.laws.Meant.{getD-behind}
-use Rattle.finds.specs.Finds.{citedBy, citesOf, traceCited, fromOne, ofEntries, lookups}
+use Rattle.index.specs.Cited.{citedBy, citesOf, traceCited}
+use Rattle.finds.specs.Finds.{fromOne, ofEntries, lookups}
 
 -- ---- four tables of 32 numbers and one number more as one table
 

@@ -1,6 +1,6 @@
 -- `head_row`: each count is at most 32. The slice of the table tells that it has 129 numbers. Assumes nothing.
 use Rattle.gather.proofs.Steps.{few-names, head-made}
-use Rattle.finds.specs.laws.Paths.{few-entries}
+use Rattle.index.specs.laws.Paths.{few-entries}
 use native.Mathlib.Omega.{arith}
 use borrow.Author.Needs.{needs}
 use Rattle.gather.proofs.head_row.Statement.{statement}

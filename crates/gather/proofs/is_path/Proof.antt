@@ -1,7 +1,7 @@
 -- `is_path`: at 0 no path stands; a text of another length is another text; and one of the path's length is there whole, so that its first bytes decide. Assumes nothing.
 use mathlib.Core.Path.{ap, _∙_}
 use lib.ListN.{length}
-use Rattle.finds.specs.laws.Paths.{path-none}
+use Rattle.index.specs.laws.Paths.{path-none}
 use Rattle.prints.specs.laws.Fronts.{front-length}
 use Rattle.gather.proofs.Texts.{length-differs, text-whole}
 use borrow.Author.Needs.{needs}

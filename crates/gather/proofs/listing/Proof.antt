@@ -3,7 +3,7 @@ use mathlib.Core.Logic.{⊎-elim}
 use mathlib.Core.Path.{_≡_, sym, _∙_}
 use Prim.Native.Nat.{_-_, _≤_}
 use native.Mathlib.Omega.{arith}
-use Rattle.finds.specs.laws.Paths.{few-entries}
+use Rattle.index.specs.laws.Paths.{few-entries}
 use Rattle.gather.specs.Gathered.{entryWith}
 use Rattle.gather.specs.laws.Listings.{listedFrom, listed-start, listed-past, listed-other, listed-on, listed-here}
 use borrow.Author.Needs.{needs}

@@ -19,9 +19,10 @@ use Rattle.manifest.specs.Rules.{has-path}
 use Rattle.index.specs.Index.{textAt, colOf, entriesIn, textCell, listed, entryBy, entryAt, manifestOf}
 use Rattle.index.specs.laws.Entries.{from, entryCell}
 use Rattle.prints.specs.Prints.{printOf, printAt}
-use Rattle.finds.specs.Finds.{entryOf, lookups}
-use Rattle.finds.specs.laws.Firsts.{first-past, first-found, first-on, first-among}
-use Rattle.finds.specs.laws.Paths.{few-entries, path-other, entryFrom, entry-start}
+use Rattle.index.specs.Cited.{entryOf}
+use Rattle.finds.specs.Finds.{lookups}
+use Rattle.index.specs.laws.Firsts.{first-past, first-found, first-on, first-among}
+use Rattle.index.specs.laws.Paths.{few-entries, path-other, entryFrom, entry-start}
 use Rattle.finds.specs.laws.Lookups.{lookups-print}
 use Rattle.gather.specs.Gathered.{isListed, entryWith}
 

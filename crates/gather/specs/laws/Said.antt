@@ -11,7 +11,7 @@ use Rattle.manifest.specs.Meaning.{Meaning, Listed}
 use Rattle.manifest.specs.declared.Link.the-variants.{Unrelated}
 use Rattle.index.specs.Index.{colOf, itemOf}
 use Rattle.finds.specs.Finds.{nameFor, baseAt, lookups}
-use Rattle.finds.specs.laws.Paths.{few-entries}
+use Rattle.index.specs.laws.Paths.{few-entries}
 use Rattle.named.specs.Named.{numberAt}
 use Rattle.meant.specs.declared.Owned.the-variants.{Nobody}
 use Rattle.meant.specs.declared.Part.the-variants.{Undeclared}

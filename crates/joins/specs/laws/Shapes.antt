@@ -21,8 +21,10 @@ use Rattle.manifest.specs.Statements.{At, here, further, All, all-one, Meets, s
 use Rattle.manifest.specs.laws.Accepted.{entries-sound}
 use Rattle.outline.specs.Outline.{domainAt}
 use Rattle.index.specs.Index.{textAt, colOf, entriesIn, at, textCell, syncBy, clocksBy, entryBy, itemsFrom, entryAt, manifestOf}
-use Rattle.finds.specs.Finds.{entryOf, nameFor, lookups}
-use Rattle.finds.specs.Theorems.{find-is, name-is}
+use Rattle.index.specs.Cited.{entryOf}
+use Rattle.finds.specs.Finds.{nameFor, lookups}
+use Rattle.index.specs.Theorems.{find-is}
+use Rattle.finds.specs.Theorems.{name-is}
 use Rattle.named.specs.Named.{numberAt}
 use Rattle.meant.specs.declared.Owned.the-variants.{Nobody, Whole, Split}
 use Rattle.meant.specs.declared.Part.{Part}

@@ -4,9 +4,9 @@ use mathlib.Core.Path.{_≡_, refl, sym, _∙_}
 use Prim.Native.Nat.{_-_, _≤_}
 use native.Mathlib.Omega.{arith}
 use borrow.Author.Needs.{needs}
-use Rattle.finds.specs.Finds.{entryCited}
+use Rattle.index.specs.Cited.{entryCited}
 use Rattle.index.specs.Index.{textAt}
-use Rattle.finds.specs.laws.Paths.{few-entries, entryFrom, entry-past, entry-on, entry-here}
+use Rattle.index.specs.laws.Paths.{few-entries, entryFrom, entry-past, entry-on, entry-here}
 use Rattle.listed.specs.laws.Slots.{path-held, path-apart}
 use Rattle.listed.specs.laws.Cited.{cited-none, cited-start}
 use Rattle.listed.proofs.cited_entry.Statement.{statement}

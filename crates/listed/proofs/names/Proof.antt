@@ -8,7 +8,7 @@ use borrow.Author.Needs.{needs}
 use Rattle.manifest.specs.Rules.{applies, refusal-13-empty-machine-name}
 use Rattle.index.specs.Index.{manifestOf}
 use Rattle.index.specs.laws.Entries.{fromEntry}
-use Rattle.finds.specs.laws.Paths.{few-entries}
+use Rattle.index.specs.laws.Paths.{few-entries}
 use Rattle.listed.specs.Settled.{Settled, cellsSettled, settledIn}
 use Rattle.listed.specs.laws.Rules.{names-10, names-are}
 use Rattle.listed.specs.laws.Parts.{Table, soFar}

@@ -8,7 +8,7 @@ use Rattle.manifest.specs.Rules.{has-path}
 use Rattle.manifest.specs.Rows.{holds, any}
 use Rattle.index.specs.Index.{textAt}
 use Rattle.index.specs.laws.Entries.{from, entryCell}
-use Rattle.finds.specs.laws.Paths.{few-entries}
+use Rattle.index.specs.laws.Paths.{few-entries}
 use Rattle.listed.specs.laws.Parts.{pathBefore}
 use Rattle.listed.specs.laws.Slots.{path-held, path-print, path-apart}
 use Rattle.listed.specs.laws.Twice.{before-none, before-start, before-past, before-found, before-on}

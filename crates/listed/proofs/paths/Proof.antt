@@ -5,7 +5,7 @@ use native.Mathlib.Omega.{arith}
 use borrow.Author.Needs.{needs}
 use Rattle.prints.specs.Prints.{pathPrint, pathPrints}
 use Rattle.prints.specs.laws.Tables.{tabled-all}
-use Rattle.finds.specs.Finds.{traceCited, entryCited}
+use Rattle.index.specs.Cited.{traceCited, entryCited}
 use Rattle.listed.specs.laws.Rules.{broken-is, twice-is}
 use Rattle.listed.specs.laws.Slots.{measured-held, read-still}
 use Rattle.listed.specs.laws.Sizes.{trace-told}

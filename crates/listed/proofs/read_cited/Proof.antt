@@ -9,8 +9,8 @@ use Rattle.manifest.specs.Rules.{applies}
 use Rattle.index.specs.Index.{manifestOf}
 use Rattle.index.specs.laws.Entries.{fromEntry}
 use Rattle.prints.specs.laws.Tables.{Tabled, tabled-none, tabled-more, tabled-all}
-use Rattle.finds.specs.Finds.{citedBy, citesOf}
-use Rattle.finds.specs.laws.Paths.{few-entries}
+use Rattle.index.specs.Cited.{citedBy, citesOf}
+use Rattle.index.specs.laws.Paths.{few-entries}
 use Rattle.listed.specs.laws.Rules.{cited-10}
 use Rattle.listed.specs.laws.Parts.{Read}
 use Rattle.listed.specs.laws.Slots.{measured-held, read-still}

@@ -8,7 +8,7 @@ use borrow.Author.Needs.{needs}
 use Rattle.manifest.specs.Rules.{applies}
 use Rattle.index.specs.Index.{manifestOf}
 use Rattle.index.specs.laws.Entries.{fromEntry}
-use Rattle.finds.specs.laws.Paths.{few-entries}
+use Rattle.index.specs.laws.Paths.{few-entries}
 use Rattle.listed.specs.laws.Rules.{own-10}
 use Rattle.listed.specs.laws.Parts.{Read}
 use Rattle.listed.specs.laws.Slots.{read-none, read-more, read-all}

@@ -3,7 +3,7 @@
 use native.Mathlib.Omega.{arith}
 use borrow.Author.Needs.{needs}
 use Rattle.index.specs.Index.{textAt}
-use Rattle.finds.specs.laws.Paths.{path-none}
+use Rattle.index.specs.laws.Paths.{path-none}
 use Rattle.listed.specs.laws.Slots.{lengths-differ, long-same, short-same}
 use Rattle.listed.proofs.same_path.Statement.{statement}
 use Rattle.listed.proofs.same_path.Tie as tie

@@ -10,7 +10,7 @@ use Rattle.manifest.specs.Rules.{outside-of, is-empty}
 use Rattle.index.specs.Index.{listed}
 use Rattle.listed.specs.Settled.{itemCell, cellsSettled}
 use Rattle.listed.specs.laws.Parts.{Table, soFar, itemNames}
-use Rattle.listed.specs.laws.Alike.{few-items}
+use Rattle.index.specs.laws.Paths.{few-items}
 use Rattle.listed.specs.laws.Sized.{long-size, empty-size, is-long, fromItem, items-start, items-done, item-told}
 use Rattle.listed.specs.laws.Onward.{Onward, itemsLeft, items-first, items-next, items-last}
 use Rattle.listed.proofs.settle_items.Statement.{statement}

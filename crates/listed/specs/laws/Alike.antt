@@ -19,6 +19,7 @@ use Rattle.manifest.specs.Rows.{flat}
 use Rattle.manifest.specs.Statements.{All, all-none, all-one}
 use Rattle.manifest.specs.laws.Bools.{halves}
 use Rattle.index.specs.Index.{colOf, itemOf, entriesIn, itemsIn, textAt, at, textCell, idCell, offsetCell, listed, itemBy, syncBy, clocksBy, entryBy, itemsFrom, entryAt, traceAt, manifestOf}
+use Rattle.index.specs.laws.Paths.{few-items}
 use Rattle.listed.specs.Settled.{itemCell, entryCells, nameCells, firstOf, Settled, cellSettled, cellsSettled, settled, settledIn}
 use Rattle.listed.specs.laws.Cells.{AllSome, none-some, first-text, first-is, cell-case, cell-none, cell-other, cell-all-some}
 
@@ -31,15 +32,6 @@ pub data NameCell (c : ℕ) : Type 0 where
   of-clocks : (i : ℕ) → c ≡ 6 + (77 * i + 6) → NameCell c
   of-sync : (i : ℕ) → c ≡ 6 + (77 * i + 9) → NameCell c
   of-item : (i k : ℕ) → k < 32 → c ≡ itemCell i k → NameCell c
-
--- an entry has at most 32 items in an index
-pub few-items : (ix : List ℕ) (i : ℕ) → itemsIn ix i ≤ 32
-unfolding itemsIn pick
-few-items ix i = go (eqb (colOf ix i 3) 0)
-  where
-    go : (b : Bool) → pick b 0 (min 32 (getD ix (6 + (77 * i + 12)) 0)) ≤ 32
-    go true = omega arith
-    go false = omega arith
 
 pub item-cells : (i j n : ℕ) → j + n ≤ 32 → All NameCell (listed (itemCell i) j n)
 unfolding listed

@@ -6,8 +6,8 @@ use borrow.Author.Tests.{eq-eqb, ne-eqb}
 use Rattle.text.specs.Reading.{Text}
 use Rattle.text.specs.laws.Readers.{pick-true, pick-false}
 use Rattle.index.specs.Index.{textAt, colOf}
-use Rattle.finds.specs.Finds.{citedBy, entryCited}
-use Rattle.finds.specs.laws.Paths.{entryFrom, entry-start}
+use Rattle.index.specs.Cited.{citedBy, entryCited}
+use Rattle.index.specs.laws.Paths.{entryFrom, entry-start}
 
 module _ (s : Text) (ix : List ℕ) {p : ℕ} where
   pub cited-none : p ≡ 0 → 32 ≡ entryCited s ix p

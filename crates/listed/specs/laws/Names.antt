@@ -18,7 +18,7 @@ use Rattle.manifest.specs.laws.Lists.{any-append}
 use Rattle.index.specs.Index.{textAt, textCell}
 use Rattle.prints.specs.Prints.{printAt, front}
 use Rattle.prints.specs.laws.Prints.{other-print}
-use Rattle.finds.specs.laws.Paths.{path-some}
+use Rattle.index.specs.laws.Paths.{path-some}
 use Rattle.listed.specs.Settled.{firstOf, withFirst, settledAt, cellSettled}
 use Rattle.listed.specs.laws.Parts.{Kept, Held, Measured, Table, Placed, soFar, sizeAt}
 

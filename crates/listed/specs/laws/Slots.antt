@@ -22,7 +22,7 @@ use Rattle.prints.specs.laws.Walks.{no-string}
 use Rattle.prints.specs.laws.Empty.{same-string}
 use Rattle.prints.specs.laws.Prints.{other-print, print-tells}
 use Rattle.prints.specs.laws.Tables.{tabled-none, tabled-more}
-use Rattle.finds.specs.laws.Paths.{path-some, path-other}
+use Rattle.index.specs.laws.Paths.{path-some, path-other}
 use Rattle.listed.specs.laws.Parts.{slot, Kept, Held, Measured, Agree, Counted, pathLength, Read}
 
 -- ---- a slot is written

@@ -25,8 +25,10 @@ use Rattle.manifest.specs.laws.Lists.{anyAt-false}
 use Rattle.manifest.specs.laws.Accepted.{no-rule}
 use Rattle.outline.specs.Outline.{domainAt, textAt as outlineText, textIn as outlineIn}
 use Rattle.index.specs.Index.{textIn, textAt, colOf, entriesIn, at, textCell, offsetCell, syncBy, clocksBy, entryBy, entryAt, manifestOf, whoseAt}
-use Rattle.finds.specs.Finds.{entryOf, baseAt, lookups, citedBy, fromOne, entryCited}
-use Rattle.finds.specs.Theorems.{find-is, base-is}
+use Rattle.index.specs.Cited.{entryOf, citedBy, entryCited}
+use Rattle.finds.specs.Finds.{baseAt, lookups, fromOne}
+use Rattle.index.specs.Theorems.{find-is}
+use Rattle.finds.specs.Theorems.{base-is}
 use Rattle.named.specs.Named.{numberAt}
 use Rattle.finds.specs.laws.Lookups.{lookups-number, lookups-cited}
 use Rattle.meant.specs.Meant.{citedName, citedAt, offsetAt, relatedTo, citesBy, linkOf}

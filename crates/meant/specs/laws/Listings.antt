@@ -16,7 +16,7 @@ use Rattle.manifest.specs.Statements.{At, here, further, All, all-none, all-one
 use Rattle.manifest.specs.laws.Accepted.{entries-sound}
 use Rattle.index.specs.Index.{entriesIn, listed, entryAt, manifestOf}
 use Rattle.index.specs.laws.Entries.{from, entryCell, entries-are}
-use Rattle.finds.specs.Finds.{entryOf}
+use Rattle.index.specs.Cited.{entryOf}
 
 module _ {A : Type 0} (f : ℕ → A) where
   -- element k of a list by number

@@ -16,8 +16,10 @@ use Rattle.manifest.specs.Statements.{Meets, stands, SoundRow}
 use Rattle.manifest.specs.laws.Accepted.{members-sound}
 use Rattle.outline.specs.Outline.{domainAt}
 use Rattle.index.specs.Index.{textAt, at, textCell, traceAt, entryAt, manifestOf, whoseAt}
-use Rattle.finds.specs.Finds.{entryOf, traceCited, baseAt, lookups, entryCited}
-use Rattle.finds.specs.Theorems.{find-is, base-is}
+use Rattle.index.specs.Cited.{entryOf, traceCited, entryCited}
+use Rattle.finds.specs.Finds.{baseAt, lookups}
+use Rattle.index.specs.Theorems.{find-is}
+use Rattle.finds.specs.Theorems.{base-is}
 use Rattle.named.specs.Named.{numberAt}
 use Rattle.finds.specs.laws.Lookups.{lookups-number, lookups-trace}
 use Rattle.meant.specs.Meant.{traceCites, traceMachineAt, timelineOf}

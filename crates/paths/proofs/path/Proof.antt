@@ -7,15 +7,15 @@ use Rattle.paths.proofs.Walk.{ends-outside, ends-far, ends-short, ends-
 use Rattle.paths.proofs.path.Statement.{statement}
 use Rattle.paths.proofs.path.Tie as tie
 
-clear-requires : tie.Need-clear-requires
-clear-requires c κs = search needs
+shorts-requires : tie.Need-shorts-requires
+shorts-requires c κs = search needs
 
 same-length : tie.Need-same-length
 same-length c = search needs
 
 returns : tie.Need-returns
 returns c =
-    let cleared = c .before .before .before .clear in
+    let cleared = c .before .before .before .shorts in
     ends-outside _ _ _ _ _ (cleared .ensures) (c .if1 .taken)
 
 search-requires : tie.Need-search-requires
@@ -32,7 +32,7 @@ same-length-2 c = search needs
 
 returns-2 : tie.Need-returns-2
 returns-2 c =
-    let cleared = c .before .before .before .before .before .before .before .clear in
+    let cleared = c .before .before .before .before .before .before .before .shorts in
     let if1 = c .before .before .before .before .if1 in
     let found = c .before .before .before .search in
     ends-far _ _ _ _ _ (cleared .ensures) (if1 .left) (found .ensures .0) (c .if2 .taken)
@@ -45,7 +45,7 @@ same-length-3 c = search needs
 
 returns-3 : tie.Need-returns-3
 returns-3 c =
-    let cleared = c .before .before .before .before .before .before .before .before .clear in
+    let cleared = c .before .before .before .before .before .before .before .before .shorts in
     let if1 = c .before .before .before .before .before .if1 in
     let found = c .before .before .before .before .search in
     ends-short _ _ _ _ _ (cleared .ensures) (if1 .left) (found .ensures .0) (c .before .if2 .left) (c .if3 .taken)
@@ -66,7 +66,7 @@ same-length-4 c = search needs
 
 returns-4 : tie.Need-returns-4
 returns-4 c =
-    let cleared = c .before .before .before .before .before .before .before .before .before .before .before .before .before .clear in
+    let cleared = c .before .before .before .before .before .before .before .before .before .before .before .before .before .shorts in
     let if1 = c .before .before .before .before .before .before .before .before .before .before .if1 in
     let found = c .before .before .before .before .before .before .before .before .before .search in
     let if2 = c .before .before .before .before .before .before .if2 in
@@ -78,7 +78,7 @@ pub path-spec : {M : Type 1} → statement M
 path-spec =
     tie.close
     (tie.spec
-    clear-requires
+    shorts-requires
     same-length
     returns
     search-requires

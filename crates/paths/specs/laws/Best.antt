@@ -79,10 +79,6 @@ module _ (g : Net) where
       go zero e = absurd (n (at-goal g c e (omega arith)))
       go (suc k) e = (k, e, next-is k c e (omega arith))
 
-  -- the next clock is one pair nearer
-  pub next-less : (c : ℕ) → dist g c < g .far → (c ≡ g .goal → ⊥) → suc (dist g (next g c)) ≡ dist g c
-  next-less c f n = let (k, e, i) = next-near c f n in omega (arith, i .near)
-
   -- the goal and a clock without a path name themselves
   pub next-zero : (c : ℕ) → dist g c ≡ 0 → next g c ≡ c
   unfolding next

@@ -33,14 +33,6 @@ tabulate-same f e n h =
     (λ i l. getD-tabulate f 0 n i 0 l ∙ ap f (omega arith) ∙ h i l)
 
 module _ (g : Net) where
-  pub length-distances : length (distances g) ≡ clocks
-  unfolding distances
-  length-distances = length-tabulate (dist g) 0 clocks
-
-  pub length-nexts : length (nexts g) ≡ clocks
-  unfolding nexts
-  length-nexts = length-tabulate (next g) 0 clocks
-
   pub getD-distances : (c : ℕ) → c < clocks → getD (distances g) c 0 ≡ dist g c
   unfolding distances
   getD-distances c h = getD-tabulate (dist g) 0 clocks c 0 h ∙ ap (dist g) (omega arith)

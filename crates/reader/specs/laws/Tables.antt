@@ -19,7 +19,8 @@ use Rattle.survey.specs.Survey.{indexFrom}
 use Rattle.reader.specs.Reader.{tableOf, lookupsOf}
 use Rattle.prints.specs.Prints.{pathPrints}
 use Rattle.named.specs.Named.{declaredIn, distinctAt, namesIn, nameTable, namePrint, printTable}
-use Rattle.finds.specs.Finds.{citedBy, citesOf, traceCited, fromOne, ofEntries, lookups, entryCited}
+use Rattle.index.specs.Cited.{citedBy, citesOf, traceCited, entryCited}
+use Rattle.finds.specs.Finds.{fromOne, ofEntries, lookups}
 use Rattle.listed.specs.declared.PathFacts.{PathFacts}
 use Rattle.listed.specs.Settled.{settledIn}
 use Rattle.listed.specs.laws.Alike.{settled-nothing}

@@ -1,7 +1,7 @@
 -- `zeros::bytes` meets its contract: the elements passed are zeros. Assumes nothing.
 use Prim.Native.Nat.{_-_}
 use lib.ListN.{length}
-use Rattle.graphs.specs.laws.Clear.{Cleared, clear-start, clear-more, clear-all}
+use Rattle.zeros.specs.laws.Clear.{Cleared, clear-start, clear-more, clear-all}
 use native.Mathlib.Omega.{arith}
 use Rattle.zeros.proofs.bytes.Statement.{statement}
 use Rattle.zeros.proofs.bytes.Tie as tie

@@ -1,22 +1,25 @@
--- `graphs::clear` meets its contract: the elements passed are zeros.
+-- `zeros::shorts` meets its contract: the elements passed are zeros. Assumes nothing.
 use Prim.Native.Nat.{_-_}
 use lib.ListN.{length}
-use Rattle.graphs.specs.laws.Clear.{Cleared, clear-start, clear-more, clear-all}
+use Rattle.zeros.specs.laws.Clear.{Cleared, clear-start, clear-more, clear-all}
 use native.Mathlib.Omega.{arith}
-use Rattle.graphs.proofs.clear.Statement.{statement}
-use Rattle.graphs.proofs.clear.Tie as tie
+use Rattle.zeros.proofs.shorts.Statement.{statement}
+use Rattle.zeros.proofs.shorts.Tie as tie
 
 abbrev Inv-loop : tie.InvT-loop
-Inv-loop matrix₀ i₀ matrix i = Cleared 0 (length matrix₀) matrix i
+Inv-loop out₀ i₀ out i = Cleared 0 (length out₀) out i
 
 abbrev μ-loop : tie.MeasureT-loop
-μ-loop matrix₀ i₀ matrix i = length matrix₀ - i
+μ-loop out₀ i₀ out i = length out₀ - i
 
 loop-holds : tie.Need-loop-holds Inv-loop μ-loop
-loop-holds c = clear-start 0 _
+loop-holds c = clear-start _ _
 
-slice-write-matrix : tie.Need-slice-write-matrix Inv-loop μ-loop
-slice-write-matrix c = omega arith
+mul-numbers : tie.Need-mul-numbers Inv-loop μ-loop
+mul-numbers c = omega (arith, c .before .loop .inv .whole, c .before .before .good)
+
+slice-write-numbers : tie.Need-slice-write-numbers Inv-loop μ-loop
+slice-write-numbers c = omega (arith, c .before .loop .inv .whole)
 
 add-i : tie.Need-add-i Inv-loop μ-loop
 add-i c = omega (arith, c .before .loop .inv .whole)
@@ -33,14 +36,15 @@ same-length c = c .before .loop .inv .whole
 returns : tie.Need-returns Inv-loop μ-loop
 returns c = clear-all (c .before .loop .inv) (omega (arith, c .before .loop .inv .whole))
 
-pub clear-spec : {M : Type 1} → statement M
-clear-spec =
+pub shorts-spec : {M : Type 1} → statement M
+shorts-spec =
     tie.close
     (tie.spec
     Inv-loop
     μ-loop
     loop-holds
-    slice-write-matrix
+    mul-numbers
+    slice-write-numbers
     add-i
     loop-less
     loop-again

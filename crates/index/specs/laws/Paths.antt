@@ -3,7 +3,7 @@ use mathlib.Core.Path.{_≡_, refl, sym, ap, _∙_}
 use mathlib.Core.Bool.{Bool, true, false}
 use mathlib.Core.Logic.{_⊎_, inl, inr}
 use mathlib.Core.List.{List}
-use Prim.Native.Nat.{ℕ, zero, suc, _+_, _-_, _≤_, _<_, min}
+use Prim.Native.Nat.{ℕ, zero, suc, _+_, _*_, _-_, _≤_, _<_, min}
 use native.Mathlib.Omega.{arith}
 use native.Mathlib.Numerals.{add-one}
 use native.Mathlib.Decide.{ℕ-discrete}
@@ -16,10 +16,10 @@ use Rattle.json.specs.Tree.{same}
 use Rattle.manifest.specs.View.{Cell, absent, one}
 use Rattle.manifest.specs.Rows.{Entry, onto, holds, firstOr, entries}
 use Rattle.manifest.specs.Rules.{has-path, find, named-entry}
-use Rattle.index.specs.Index.{textAt, colOf, entriesIn, at, textCell, listed, entryBy, entryAt, manifestOf}
+use Rattle.index.specs.Index.{textAt, colOf, entriesIn, itemsIn, at, textCell, listed, entryBy, entryAt, manifestOf}
 use Rattle.index.specs.laws.Entries.{from, entryCell, entries-are}
-use Rattle.finds.specs.Finds.{entryOf}
-use Rattle.finds.specs.laws.Firsts.{first-past, first-found, first-on, first-among}
+use Rattle.index.specs.Cited.{entryOf}
+use Rattle.index.specs.laws.Firsts.{first-past, first-found, first-on, first-among}
 
 -- the first entry with a path, from number i on; 32 if there is none
 unfoldable pub entryFrom : Text → List ℕ → Text → ℕ → ℕ
@@ -49,6 +49,15 @@ unfolding entriesIn pick
 few-entries ix = go (eqb (getD ix 0 0) 0)
   where
     go : (b : Bool) → pick b 0 (min 32 (getD ix 5 0)) ≤ 32
+    go true = omega arith
+    go false = omega arith
+
+-- and an entry in it at most 32 items
+pub few-items : (ix : List ℕ) (i : ℕ) → itemsIn ix i ≤ 32
+unfolding itemsIn pick
+few-items ix i = go (eqb (colOf ix i 3) 0)
+  where
+    go : (b : Bool) → pick b 0 (min 32 (getD ix (6 + (77 * i + 12)) 0)) ≤ 32
     go true = omega arith
     go false = omega arith
 
