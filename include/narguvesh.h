@@ -6,7 +6,7 @@
  * defines, on every input. It takes no memory of its own, calls nothing but
  * memcpy and memset, keeps nothing between calls and has no globals, so threads may call
  * it at once with different memory. A call needs less than 64 KiB of stack.
- * The archive is for x86-64 Linux: target/staticlib/libnarguvesh_c.a.
+ * The archive is for x86-64 Linux: crates/narguvesh_c/out/libnarguvesh_c.a.
  */
 #ifndef NARGUVESH_H
 #define NARGUVESH_H

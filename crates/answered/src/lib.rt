@@ -1,4 +1,6 @@
 // The answer of a manifest and a sheet that fit each other, in memory that the caller lends.
+#![tactic(auto)]
+
 ghost use Rattle.std.specs.Prelude.{◌≡◌, map, ◌≤◌, min, eqb, pos, length, replicate};
 ghost use Rattle.text.specs.Reading.{pick};
 ghost use Rattle.merged.specs.declared.Trace.TheVariants.{Nothing, On};

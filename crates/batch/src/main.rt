@@ -1,7 +1,12 @@
 // Merges many pairs in one run. On standard input each manifest stands as its length, 4 bytes with the least significant first, and its bytes,
 // then its sheet likewise; for each pair the answer's lines are written and then a line `.`. Input that ends inside a pair ends the run with the
 // line `cut off`.
-use libc::{STDIN_FILENO, STDOUT_FILENO};
+#![tactic(auto)]
+
+ghost use Rattle.std.specs.Prelude.{◌≤◌, length, IfOk};
+
+use std::io;
+use std::io::Read;
 
 // One byte more than the longest text that is not refused, so that a longer one is seen to be longer.
 const SPACE: usize = 65537;
@@ -20,64 +25,95 @@ fn number(head: &[u8; 4]) -> usize {
     wide(head[0]) | wide(head[1]) << 8 | wide(head[2]) << 16 | wide(head[3]) << 24
 }
 
-// Fills the first n bytes of a buffer from the input; whether the input has them and the buffer holds them.
-fn fill(n: usize, buf: &mut [u8]) -> bool {
-    if buf.len() < n {
-        return false;
+// Reads until a buffer is full or the input ends; how many bytes the buffer has then.
+fn read_full(input: &mut impl Read, buf: &mut [u8]) -> io::Result<usize>
+    ensures { IfOk result (λ n. n ≤ length buf.new) }
+{
+    let mut done: usize = 0;
+    while done < buf.len() {
+        let n = input.read(&mut buf[done..])?;
+        if n == 0 {
+            break;
+        }
+        done += n;
     }
-    io::read_full(STDIN_FILENO, &mut buf[..n]) == n
+    Ok(done)
+}
+
+// Fills the first n bytes of a buffer from the input; whether the input has them and the buffer holds them.
+fn fill(input: &mut impl Read, n: usize, buf: &mut [u8]) -> io::Result<bool> {
+    if buf.len() < n {
+        return Ok(false);
+    }
+    Ok(read_full(input, &mut buf[..n])? == n)
 }
 
 // Passes over n bytes of the input, 4,096 at a time; whether it has them and the buffer holds as many.
-fn skip(n: usize, buf: &mut [u8]) -> bool {
+fn skip(input: &mut impl Read, n: usize, buf: &mut [u8]) -> io::Result<bool> {
     let mut left = n / 4096;
     while left > 0 {
-        if !fill(4096, buf) {
-            return false;
+        if !fill(input, 4096, buf)? {
+            return Ok(false);
         }
         left -= 1;
     }
-    fill(n % 4096, buf)
+    fill(input, n % 4096, buf)
 }
 
 // Reads a text of n bytes; how many of them the buffer has. What lies past the buffer's end is passed over.
-fn body(n: usize, buf: &mut [u8]) -> isize {
+fn body(input: &mut impl Read, n: usize, buf: &mut [u8]) -> io::Result<isize> {
     let space = buf.len();
     if n <= space {
-        if fill(n, buf) {
-            return n as isize;
+        if fill(input, n, buf)? {
+            return Ok(n as isize);
         }
-        return CUT;
+        return Ok(CUT);
     }
-    let mut over = io::buffer();
-    if fill(space, buf) && skip(n - space, &mut over) {
-        return space as isize;
+    let mut over = [0u8; 4096];
+    if fill(input, space, buf)? && skip(input, n - space, &mut over)? {
+        return Ok(space as isize);
     }
-    CUT
+    Ok(CUT)
 }
 
 // Reads a length and its text.
-fn frame(buf: &mut [u8]) -> isize {
+fn frame(input: &mut impl Read, buf: &mut [u8]) -> io::Result<isize> {
     let mut head = [0u8; 4];
-    let got = io::read_full(STDIN_FILENO, &mut head);
+    let got = read_full(input, &mut head)?;
     if got == 0 {
-        return ENDED;
+        return Ok(ENDED);
     }
     if got < 4 {
-        return CUT;
+        return Ok(CUT);
     }
-    body(number(&head), buf)
+    body(input, number(&head), buf)
+}
+
+// The number of bytes that an answer of `frame` stands for: 0 if it is negative, and never more than the buffer has.
+fn count(got: isize, buf: &[u8]) -> usize
+    ensures { result ≤ length buf.now }
+{
+    if got < 0 {
+        return 0;
+    }
+    (got as usize).min(buf.len())
 }
 
 // Writes the lines of an answer. The memory fits every answer (docs/MEMORY.md).
-fn write_lines<'a>(answer: merged::Answer, times: &'a [i64], kinds: &'a [u8], steps: &'a [u16]) {
+fn write_lines(
+    rt: &impl Print,
+    answer: merged::Answer,
+    times: &[i64],
+    kinds: &[u8],
+    steps: &[u16],
+) -> io::Result<()> {
     let mut out = [0u8; 671136];
     let n = written::lines(answer, times, kinds, steps, &mut out);
-    io::write_all(STDOUT_FILENO, &out[..n]);
+    rt.write_all(&out[..n])
 }
 
 // Merges and writes. The lengths fit every input (docs/MEMORY.md).
-fn tell<'a>(manifest: &'a [u8], sheet: &'a [u8]) {
+fn tell(rt: &impl Print, manifest: &[u8], sheet: &[u8]) -> io::Result<()> {
     let mut machines = [0u8; 32];
     let mut times = [0i64; 6990];
     let mut kinds = [0u8; 6990];
@@ -96,48 +132,48 @@ fn tell<'a>(manifest: &'a [u8], sheet: &'a [u8]) {
         &mut readings,
         &mut clocks,
     );
-    write_lines(answer, &times, &kinds, &steps);
+    write_lines(rt, answer, &times, &kinds, &steps)
 }
 
-fn cut_off() -> bool {
-    io::write_all(STDOUT_FILENO, b"cut off\n");
-    false
+fn cut_off(rt: &impl Print) -> io::Result<bool> {
+    rt.write_all(b"cut off\n")?;
+    Ok(false)
 }
 
 // Reads the sheet of a pair, and writes what it and the manifest give and a dot; whether to go on.
-fn with_sheet(manifest: &[u8]) -> bool {
+fn with_sheet(rt: &impl Print, input: &mut impl Read, manifest: &[u8]) -> io::Result<bool> {
     let mut sheet = [0u8; SPACE];
-    let s = frame(&mut sheet);
+    let s = frame(input, &mut sheet)?;
     if s < 0 {
-        return cut_off();
+        return cut_off(rt);
     }
-    let k = io::count(s, &sheet);
-    tell(manifest, &sheet[..k]);
-    io::write_all(STDOUT_FILENO, b".\n");
-    true
+    let k = count(s, &sheet);
+    tell(rt, manifest, &sheet[..k])?;
+    rt.write_all(b".\n")?;
+    Ok(true)
 }
 
 // One pair; whether to go on.
-fn pair() -> bool {
+fn pair(rt: &impl Print, input: &mut impl Read) -> io::Result<bool> {
     let mut manifest = [0u8; SPACE];
-    let m = frame(&mut manifest);
+    let m = frame(input, &mut manifest)?;
     if m == ENDED {
-        return false;
+        return Ok(false);
     }
     if m < 0 {
-        return cut_off();
+        return cut_off(rt);
     }
-    let n = io::count(m, &manifest);
-    with_sheet(&manifest[..n])
+    let n = count(m, &manifest);
+    with_sheet(rt, input, &manifest[..n])
 }
 
-// A proved loop has to end, and nothing says that the input does: the loop counts down from a number that no run uses up.
-fn main() {
-    let mut turns = u64::MAX;
-    while turns > 0 {
-        if !pair() {
-            return;
+// A proved loop has to end, and nothing says that the input does: the loop counts up to a number that no run reaches.
+fn main(rt: HostRuntime) -> io::Result<()> {
+    let mut input = rt.reader();
+    for _ in 0..u64::MAX {
+        if !pair(&rt, &mut input)? {
+            break;
         }
-        turns -= 1;
     }
+    Ok(())
 }

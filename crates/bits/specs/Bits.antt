@@ -38,7 +38,7 @@ taken s i w = record { value = number s i w; next = record { at = i + w } }
 unfoldable pub taken_at : List ℕ → ℕ → ℕ → Taken
 taken_at s i w = cond (may_stand i w) (taken s i w) (record { value = 0; next = record { at = i } })
 
--- a field of 64 bits as a reading, in two's complement: v, or v - 2^64 where the first bit is set (`reading-low`, `reading-high`)
+-- a field of 64 bits as a reading, in two's complement: v, or v - 2^64 where the first bit is set (`reading_low`, `reading_high`)
 abbrev pub reading_of : Field → Reading
 reading_of (Got v next) = Read (to_z w64 v) next
 reading_of Cut = Short

@@ -17,8 +17,8 @@ use Rattle.bits.specs.laws.Readings as Readings
 -- ---- the number of a field
 module _ (s : List ℕ) where
   -- a field is some bits of the slice read as one big-endian number: drop what follows the field, keep its w bits
-  pub number_tree : Bytes s → (i w : ℕ) → i + w ≤ 8 * length s → number s i w ≡ big_endian s / 2 ^ (8 * length s - (i + w)) % 2 ^ w
-  number_tree = BigEndian.number_tree s
+  pub as_number : Bytes s → (i w : ℕ) → i + w ≤ 8 * length s → number s i w ≡ big_endian s / 2 ^ (8 * length s - (i + w)) % 2 ^ w
+  as_number = BigEndian.as_number s
 
   -- most significant first: bit k of a field, counted from its most significant, is bit i + k of the slice
   pub most_significant_first : (i w k : ℕ) → k < w → number s i w / 2 ^ (w - suc k) % 2 ≡ bit_at s (i + k)

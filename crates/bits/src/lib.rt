@@ -1,3 +1,5 @@
+#![tactic(auto)]
+
 ghost use Rattle.std.specs.Prelude.{◌≡◌, ◌+◌, ◌*◌, ◌%◌, ◌^◌, ◌<◌, ◌≤◌, length, get_or};
 ghost use Rattle.bits.specs.Bits.{number, may_stand, field_at, taken_at, reading_at};
 
@@ -5,27 +7,27 @@ ghost use Rattle.bits.specs.Bits.{number, may_stand, field_at, taken_at, reading
 const LAST: usize = 0xffff_ffff_ffff_ffff;
 
 // A bit position, from the most significant bit of byte 0.
-#[derive(Drop)]
+#[derive(Clone, Copy)]
 pub struct Cursor {
     pub at: usize,
 }
 
 // A field that lies whole in the slice, with the cursor past it; or that the slice ends before it does, or no such field can be read.
-#[derive(Drop)]
+#[derive(Clone, Copy)]
 pub enum Field {
     Got(u64, Cursor),
     Cut,
 }
 
 // A field that was read, zeros past the end, with the cursor past it.
-#[derive(Drop)]
+#[derive(Clone, Copy)]
 pub struct Taken {
     pub value: u64,
     pub next: Cursor,
 }
 
 // A reading of a clock, with the cursor past it; or that its field of 64 bits is cut.
-#[derive(Drop)]
+#[derive(Clone, Copy)]
 pub enum Reading {
     Read(i64, Cursor),
     Short,

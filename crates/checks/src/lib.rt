@@ -1,4 +1,6 @@
 // Refusals 32 to 37 and the machines of the sources, over a table of what is known of files and sources.
+#![tactic(auto)]
+
 ghost use Rattle.std.specs.Prelude.{◌≡◌, ◌&&◌, ◌+◌, ◌<◌, ◌≤◌, min, leb, length};
 ghost use Rattle.manifest.specs.Rows.{any};
 ghost use Rattle.merged.specs.Machines.{sources_in, is_silent, by_id, machine_count};
@@ -6,7 +8,7 @@ ghost use Rattle.merged.specs.Refusals.{checks, first_of, listed_by, has_clocks,
 ghost use Rattle.checks.specs.Table.{file_number, source_number, file_by, source_by, files_in, sources_held, facts_by};
 ghost use Rattle.checks.specs.Machines.{machine_table};
 ghost use Rattle.checks.specs.laws.Ids.{place_in, firsts};
-ghost use Rattle.checks.specs.laws.Given.{machineGiven};
+ghost use Rattle.checks.specs.laws.Given.{machine_given};
 ghost use Rattle.checks.specs.laws.Met.{Enrolled, machine_met};
 
 // A number of the table, where sums are made of it.
@@ -103,7 +105,7 @@ fn by_id(t: &[u32; 324], j: usize) -> bool
 // The machine that is given for source j; where none is, the host.
 fn given_machine(t: &[u32; 324], j: usize) -> usize
     requires { j < 32 }
-    ensures { result ≡ machineGiven (source_by t.now j).given }
+    ensures { result ≡ machine_given (source_by t.now j).given }
 {
     let said = source_number(t, j, 2);
     let machine = source_number(t, j, 3);

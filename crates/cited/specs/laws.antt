@@ -3,11 +3,7 @@ pub mod Cells
 pub mod Within
 pub mod Files
 pub mod Declared
-pub mod Rule19
 pub mod Rule20
 pub mod Rule21
-pub mod Offsets
 pub mod Apart
 pub mod Clocks
-pub mod Rule24
-pub mod Order

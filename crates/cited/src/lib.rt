@@ -1,4 +1,6 @@
 // Refusals 19 to 24: cited files and machines, offsets, and clocks related to themselves.
+#![tactic(auto)]
+
 ghost use Rattle.std.specs.Prelude.{◌≡◌, true, ◌<◌, eqb};
 ghost use Rattle.text.specs.Reading.{Text, pick};
 ghost use Rattle.grammar.specs.Tree.{same};
@@ -496,7 +498,7 @@ fn refusal_24_clock_related_to_itself(
 }
 
 // What is judged: the number of the first of these rules that applies, and what is known of the paths and the names, by which others are judged.
-#[derive(Drop)]
+#[derive(Clone, Copy)]
 pub struct Judged {
     pub refusal: u8,
     pub paths: PathFacts,

@@ -11,7 +11,7 @@ use borrow.Author.Tests.{lt-ltb, le-ltb}
 use Rattle.text.specs.Reading.{Text}
 use Rattle.manifest.specs.Rows.{any}
 use Rattle.index.specs.Index.{head_row, entry_row, index_of, many_items, too_many}
-use Rattle.index.specs.laws.Back.{files_of, machines_of, in_row}
+use Rattle.index.proofs.laws.Back.{files_of, machines_of, in_row}
 
 any_at : (q : ℕ → Bool) (l : List ℕ) (i : ℕ) → i < length l → any q (drop i l) ≡ (q (get_or l i 0) || any q (drop (i + 1) l))
 unfolding any

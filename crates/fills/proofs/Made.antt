@@ -8,9 +8,9 @@ use lib.ListN.{length, get_or, replicate, get_or-eq_default}
 use Rattle.text.specs.Reading.{Text, pick}
 use Rattle.manifest.specs.Names.{bytes}
 use Rattle.index.specs.Index.{column, items_of, rows, head_row, entry_row, item_row, block, index_of}
-use Rattle.index.specs.laws.Rows.{rows_length}
-use Rattle.index.specs.laws.Back.{entry_row_length, block_length, index_long}
-use Rattle.index.specs.laws.Put.{Put, put_none, put_before, put_all, put_row, put_same}
+use Rattle.index.proofs.laws.Rows.{rows_length}
+use Rattle.index.proofs.laws.Back.{entry_row_length, block_length, index_long}
+use Rattle.index.proofs.laws.Put.{Put, put_none, put_before, put_all, put_row, put_same}
 use Rattle.fills.specs.laws.Blank.{Blank, blank_same, blank_on, blank_put, put_zeros, put_rest}
 use Rattle.fills.specs.laws.Held.{PutHeld}
 use Rattle.fills.specs.laws.Walked.{none, RowTo, row_by, entry_by, head_by, EntryHas, HeadHas}

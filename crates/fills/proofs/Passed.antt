@@ -15,8 +15,8 @@ use Rattle.text.specs.laws.Peek.{skip_ge}
 use Rattle.text.specs.laws.Readers.{Forward, at as until, at_next, next_inv, pick_true, pick_false, done_of, done_at}
 use Rattle.grammar.specs.Tree.{Tree, same}
 use Rattle.grammar.specs.Document.{value, name, many}
-use Rattle.grammar.specs.laws.Forward.{value_forward, name_forward}
-use Rattle.grammar.specs.laws.Levels.{value_more}
+use Rattle.grammar.proofs.laws.Forward.{value_forward, name_forward}
+use Rattle.grammar.proofs.laws.Levels.{value_more}
 use Rattle.values.specs.Strings.{is_text, same_as}
 use Rattle.values.specs.laws.Outs.{Gives}
 use Rattle.places.specs.Places.{inner, place, item_place, named_place, value_place, member_place, items_at, members_at, places_of, counted, member_at}
@@ -24,8 +24,8 @@ use Rattle.places.specs.laws.Standing.{name_string, member_inv}
 use Rattle.places.specs.laws.Parts.{Row, many_empty, many_row, row_reads, row_inside, row_onward, row_last, row_next, array_read, object_read, no_array, no_object}
 use Rattle.manifest.specs.Statements.{All, all_none, all_one}
 use Rattle.index.specs.Index.{column, items_of}
-use Rattle.index.specs.laws.Positive.{members_positive}
-use Rattle.index.specs.laws.Seen.{column_there}
+use Rattle.index.proofs.laws.Positive.{members_positive}
+use Rattle.index.proofs.laws.Seen.{column_there}
 use Rattle.fills.specs.declared.Next.{Next}
 use Rattle.fills.specs.laws.Walked.{There, Ends, Opens, Follows, is_first, met, none}
 

@@ -11,11 +11,11 @@ use Rattle.text.specs.Reading.{Text, Out, done, bad, deep, pick}
 use Rattle.text.specs.Strings.{string}
 use Rattle.text.specs.laws.Readers.{pick_case, pick_true, pick_false}
 use Rattle.grammar.specs.Tree.{same}
-use Rattle.grammar.specs.laws.Order.{same_true}
+use Rattle.grammar.proofs.laws.Order.{same_true}
 use Rattle.values.specs.Strings.{is_text, same_as}
 use Rattle.manifest.specs.Names.{bytes}
 use Rattle.index.specs.Index.{column, items_of, rows, item_row, block}
-use Rattle.index.specs.laws.Put.{Put}
+use Rattle.index.proofs.laws.Put.{Put}
 use Rattle.fills.specs.laws.Walked.{There, is_first, line_of, four, met, none, row_by, entry_by, head_by, ClockMet, ClocksMet, EntryHas, EntryMet, HeadHas, HeadMet}
 
 -- ---- the first with its name

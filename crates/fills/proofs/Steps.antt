@@ -14,7 +14,7 @@ use Rattle.places.specs.Places.{member_place, places_of, counted}
 use Rattle.places.specs.laws.Standing.{member_inv}
 use Rattle.places.specs.laws.Parts.{not_read}
 use Rattle.index.specs.Index.{column}
-use Rattle.index.specs.laws.Seen.{column_there}
+use Rattle.index.proofs.laws.Seen.{column_there}
 use Rattle.fills.specs.declared.Next.{Next}
 use Rattle.fills.specs.laws.Walked.{There, IsThere, Ends, Opens, Follows, reached, is_first, met, none, RowTo, four}
 use Rattle.fills.proofs.Passed.{Left, left_start, left_end, left_on}

@@ -11,7 +11,7 @@ use Rattle.places.specs.Places.{member_place}
 use Rattle.manifest.specs.Names.{bytes}
 use Rattle.manifest.specs.Rows.{any}
 use Rattle.index.specs.Index.{column, items_of, block, index_of, many_items, too_many}
-use Rattle.index.specs.laws.Put.{Put, put_length}
+use Rattle.index.proofs.laws.Put.{Put, put_length}
 use Rattle.fills.specs.declared.Next.{Next}
 use Rattle.fills.specs.laws.Blank.{Blank, blank_on, blank_zeros}
 use Rattle.fills.specs.laws.Walked.{There, Ends, Opens, Follows, met, none, row_by, entry_by, head_by, ClockMet, ClocksMet, EntryHas, EntryMet, HeadHas, HeadMet}

@@ -1,5 +1,7 @@
 // The index of a manifest is made from its text by one walk: it goes into each known member where it is first met, notes where its value stands, and
 // goes on where that value ends.
+#![tactic(auto)]
+
 ghost use Rattle.std.specs.Prelude.{◌≡◌, ℕ, ◌+◌, ◌*◌, ◌≤◌, ◌<◌, length, get_or, set};
 ghost use Rattle.text.specs.Reading.{Text, pick};
 ghost use Rattle.text.specs.Class.{skip};
@@ -7,20 +9,20 @@ ghost use Rattle.values.specs.laws.Outs.{Gives};
 ghost use Rattle.places.specs.Places.{member_place};
 ghost use Rattle.manifest.specs.Names.{bytes};
 ghost use Rattle.index.specs.Index.{column, items_of, block, rows, item_row, index_of, too_many};
-ghost use Rattle.index.specs.laws.Put.{Put};
+ghost use Rattle.index.proofs.laws.Put.{Put};
 ghost use Rattle.fills.specs.laws.Blank.{Blank};
 ghost use Rattle.fills.specs.laws.Held.{PutHeld};
 ghost use Rattle.fills.specs.laws.Walked.{There, IsThere, Ends, reached, is_first, line_of, four, Opens, Follows, RowTo, ClockMet, ClocksMet, EntryMet, HeadMet};
 
 // Where the next member or item starts, 0 after the last one; and then where the object or the array ends.
-#[derive(Drop)]
+#[derive(Clone, Copy)]
 struct Next {
     start: usize,
     end: usize,
 }
 
 // The items of an array: how many they are, and where the array ends.
-#[derive(Drop)]
+#[derive(Clone, Copy)]
 struct Items {
     count: usize,
     end: usize,

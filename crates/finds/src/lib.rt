@@ -1,4 +1,6 @@
 // What is found in an index: the name for an id, the name of a file's base machine; and a table of what is looked up often.
+#![tactic(auto)]
+
 ghost use Rattle.std.specs.Prelude.{◌≡◌, [], ◌∷◌, ◌++◌, map, ◌≤◌, ◌<◌, pos, length, get_or};
 ghost use Rattle.manifest.specs.Rows.{holds};
 ghost use Rattle.manifest.specs.Rules.{same_id};

@@ -27,8 +27,8 @@ use Rattle.sheet.specs.declared.Table.{Table}
 use Rattle.sheet.specs.declared.Sheet.TheVariants.{Refused, Listed}
 use Rattle.outline.specs.Outline.{domain_at}
 use Rattle.index.specs.Index.{col_of, rows, entries_in}
-use Rattle.index.specs.laws.Rows.{rows_length, rows_at}
-use Rattle.index.specs.laws.Put.{Put, put_more, put_same, put_all}
+use Rattle.index.proofs.laws.Rows.{rows_length, rows_at}
+use Rattle.index.proofs.laws.Put.{Put, put_more, put_same, put_all}
 use Rattle.named.specs.Named.{count_in, number_at, stands_at}
 use Rattle.meant.specs.declared.Owned.{Owned}
 use Rattle.meant.specs.declared.Owned.TheVariants.{Nobody, Whole, Split}

@@ -1,5 +1,5 @@
 -- A path is compared with a text whose first bytes are in memory. Assumes nothing.
-use mathlib.Core.Path.{◌≡◌, refl, sym, ap, ◌∙◌}
+use mathlib.Core.Path.{◌≡◌, sym, ap, ◌∙◌}
 use mathlib.Core.Bool.{Bool, true, false}
 use mathlib.Core.List.{List}
 use Prim.Native.Nat.{ℕ, ◌≤◌, ◌<◌}
@@ -7,12 +7,12 @@ use lib.ListN.{length, get_or, take}
 use lib.Seq.{length-take-le, get_or-take, ext_get_or}
 use Rattle.text.specs.Reading.{Text}
 use Rattle.grammar.specs.Tree.{same}
-use Rattle.grammar.specs.laws.Order.{same_refl, same_false}
+use Rattle.grammar.proofs.laws.Order.{same_refl, same_false}
 use Rattle.manifest.specs.Rows.{holds}
 use Rattle.index.specs.Index.{text_at, text_cell}
 use Rattle.prints.specs.Prints.{front}
 use Rattle.prints.specs.laws.Fronts.{front_whole}
-use Rattle.index.specs.laws.Paths.{path_some, path_other}
+use Rattle.index.proofs.laws.Paths.{path_some, path_other}
 
 -- ---- byte by byte
 

@@ -11,7 +11,7 @@ use Rattle.bits.specs.laws.Number.{number_lt, number_append, number_front}
 use Rattle.bits.specs.laws.Fields.{take_in}
 use Rattle.bits.specs.declared.Taken.{Taken}
 use Rattle.records.specs.Layout.{bytes_at}
-use Rattle.index.specs.laws.Put.{Put, put_one, put_more, put_same, put_length}
+use Rattle.index.proofs.laws.Put.{Put, put_one, put_more, put_same, put_length}
 
 -- ---- the bytes of a number
 

@@ -49,7 +49,7 @@ owned_code Split p = part_code p
 unfoldable pub flag : Bool → ℕ
 flag c = pick c 1 0
 
--- ---- the entry of a path, by the table of lookups: theorem `entry-is` says it of the manifest's
+-- ---- the entry of a path, by the table of lookups: theorem `entry_is` says it of the manifest's
 
 -- entry i has the path: its print in the table is the path's, and its text is
 unfoldable pub is_listed : Text → List ℕ → List ℕ → Text → ℕ → Bool

@@ -26,8 +26,8 @@ use Rattle.meant.specs.Told.{Tells}
 use Rattle.merged.specs.Facts.{Filed, filed, no_file, no_source, parts_of, said, tie_by, given_by, file_fact, file_facts, source_fact, facts_of}
 use Rattle.merged.specs.Facts.{entry_for as entry_by}
 use Rattle.merged.specs.Merged.{once, records_of}
-use Rattle.merged.specs.laws.Sheets.{told, read_told}
-use Rattle.merged.specs.laws.Lists.{length_map}
+use Rattle.merged.proofs.laws.Sheets.{told, read_told}
+use Rattle.merged.proofs.laws.Lists.{length_map}
 use Rattle.checks.specs.Table.{file_number, source_number, tie_of, given_of, is_set, file_by, source_by, files_in, sources_held, facts_by}
 use Rattle.gather.specs.Gathered.{owned_code, entry_with, entry_for, file_row, source_row, gathered_in, gathered_by, gathered}
 use Rattle.gather.specs.laws.Listings.{entry_listed}

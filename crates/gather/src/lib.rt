@@ -1,4 +1,6 @@
 // What is known of files and sources, gathered from a sheet and a manifest's tables.
+#![tactic(auto)]
+
 ghost use Rattle.std.specs.Prelude.{◌≡◌, [], ◌∷◌, ◌+◌, ◌*◌, ◌<◌, ◌≤◌, length, take};
 ghost use Rattle.records.specs.Layout.{bytes_at};
 ghost use Rattle.records.specs.Readers.{path_at, source_at, snapshot_at};
@@ -7,7 +9,7 @@ ghost use Rattle.sheet.specs.Sheets.{read_of};
 ghost use Rattle.grammar.specs.Tree.{same};
 ghost use Rattle.manifest.specs.Rows.{holds};
 ghost use Rattle.index.specs.Index.{text_cell, rows, entries_in};
-ghost use Rattle.index.specs.laws.Put.{Put};
+ghost use Rattle.index.proofs.laws.Put.{Put};
 ghost use Rattle.named.specs.Named.{count_in};
 ghost use Rattle.meant.specs.Meant.{owned_of, part_of};
 ghost use Rattle.gather.specs.Gathered.{part_code, owned_code, flag as flag_of, entry_with, row_in, file_row, source_row, gathered_in, gathered};

@@ -16,10 +16,10 @@ use Rattle.text.specs.Numbers.{number}
 use Rattle.text.specs.laws.Peek.{skip_ge, found_in}
 use Rattle.grammar.specs.Document.{true_word, false_word, null_word, scalar, items, many, name, value, most, read}
 use Rattle.grammar.specs.Items.{item, closer}
-use Rattle.grammar.specs.laws.Steps.{scalar_string, scalar_true, scalar_false, scalar_null, scalar_number, one_scalar, one_array_deep, one_array, one_object_deep, one_object}
-use Rattle.grammar.specs.laws.Steps.{name_bad, name_deep, name_colon, name_stop, item_done, item_bad, item_deep, item_array}
-use Rattle.grammar.specs.laws.Steps.{many_none, many_some, turn_bad, turn_deep, turn_close, turn_comma, turn_stop, turn_onward}
-use Rattle.grammar.specs.laws.Steps.{read_bad, read_deep, read_done, read_more}
+use Rattle.grammar.proofs.laws.Steps.{scalar_string, scalar_true, scalar_false, scalar_null, scalar_number, one_scalar, one_array_deep, one_array, one_object_deep, one_object}
+use Rattle.grammar.proofs.laws.Steps.{name_bad, name_deep, name_colon, name_stop, item_done, item_bad, item_deep, item_array}
+use Rattle.grammar.proofs.laws.Steps.{many_none, many_some, turn_bad, turn_deep, turn_close, turn_comma, turn_stop, turn_onward}
+use Rattle.grammar.proofs.laws.Steps.{read_bad, read_deep, read_done, read_more}
 
 -- `scalar`: b is the byte at i
 module _ (s : Text) (i : ℕ) {b : ℕ} (eb : b ≡ peek s i) where

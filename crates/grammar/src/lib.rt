@@ -1,4 +1,6 @@
 // A whole JSON text: values with so many levels of objects and arrays, names of members, documents.
+#![tactic(auto)]
+
 ghost use Rattle.std.specs.Prelude.{◌≡◌};
 ghost use Rattle.text.specs.Reading.{scan};
 ghost use Rattle.grammar.specs.Document.{scalar as scalarOf, name as name_of, many, value as value_of, read};

@@ -1,4 +1,6 @@
 // Correspondences between clocks, and the three graphs that they and the guesses make.
+#![tactic(auto)]
+
 ghost use Rattle.std.specs.Prelude.{◌≡◌, [], ◌&&◌, ◌||◌, ◌+◌, ◌*◌, ◌-◌, ◌/◌, ◌%◌, ◌^◌, ◌≤◌, ◌<◌, ltb, leb, eqb, length, replicate};
 ghost use Rattle.numbers.specs.Numbers.{clocks};
 ghost use Rattle.graphs.specs.Links.{links_of};

@@ -1,4 +1,6 @@
 // The index of a manifest: where its known members stand in the text, as numbers. It is made once, and then the rules are judged over it.
+#![tactic(auto)]
+
 ghost use Rattle.std.specs.Prelude.{◌≡◌, min, length};
 ghost use Rattle.grammar.specs.Tree.{same};
 ghost use Rattle.index.specs.Index.{text_at, col_of, item_of, entries_in, items_in};

@@ -1,5 +1,5 @@
 -- What a merge comes to, in the values that the code has: a manifest's tables, the table of what is known, and where the sheet's records lie. Theorem
--- `accepted-is` says that it is the merge. Assumes nothing.
+-- `accepted_is` says that it is the merge. Assumes nothing.
 use Rattle.std.specs.Prelude.{◌≡◌, Bool, ◌&&◌, List, map, ℕ, ◌*◌, ◌≤◌, leb, pos}
 use Rattle.text.specs.Reading.{Text}
 use Rattle.numbers.specs.Numbers.{clocks}

@@ -1,4 +1,6 @@
 // What a manifest's bytes and a sheet's bytes say together: their refusal, 1 to 37, or all that events are placed by.
+#![tactic(auto)]
+
 ghost use Rattle.std.specs.Prelude.{◌≡◌, map, ◌<◌, min, pos, length};
 ghost use Rattle.merged.specs.Merged.{padded};
 ghost use Rattle.known.specs.Known.{table_in, verdict, given_by, fact_table, links_in, told};

@@ -23,7 +23,7 @@ use Rattle.merged.specs.Machines.{sources_in, is_silent, by_id, machine_by, mach
 use Rattle.merged.specs.Refusals.{is_pinned}
 use Rattle.merged.specs.Merged.{records_of}
 use Rattle.merged.specs.Timeline.{private_clock, domain_clock, file_at, source_at, link_from, link_of, event_clock}
-use Rattle.merged.specs.laws.Lists.{length_map, get_d_map, padded_below, padded_past}
+use Rattle.merged.proofs.laws.Lists.{length_map, get_d_map, padded_below, padded_past}
 use Rattle.checks.specs.Table.{facts_by}
 use Rattle.checks.specs.Machines.{machine_table}
 use Rattle.lines.specs.Lines.{link_by, clock_by, entry_links, snapshot_links, events_at}

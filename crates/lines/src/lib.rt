@@ -1,4 +1,6 @@
 // Correspondences and events as arrays, for the clocks.
+#![tactic(auto)]
+
 ghost use Rattle.std.specs.Prelude.{◌≡◌, List, [], ◌∷◌, map, ℕ, ◌+◌, ◌*◌, ◌<◌, ◌≤◌, min, length, get_or, pos};
 ghost use Rattle.manifest.specs.Rows.{first_or};
 ghost use Rattle.records.specs.Readers.{snapshot_at};

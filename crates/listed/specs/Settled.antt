@@ -1,5 +1,5 @@
 -- The names of machines in an index, each told by where its text first stands: then names that are the same stand at one place. The manifest that the index stands for
--- stays as it is (theorem `settled_is`), and the places of different names are told (theorem `firsts-apart`). Assumes nothing.
+-- stays as it is (theorem `settled_is`), and the places of different names are told (theorem `firsts_apart`). Assumes nothing.
 use Rattle.std.specs.Prelude.{List, [], ◌∷◌, ◌++◌, ℕ, ◌+◌, ◌-◌, ◌*◌, eqb, length, get_or, take, set, replicate}
 use Rattle.text.specs.Reading.{Text, pick}
 use Rattle.grammar.specs.Tree.{same}

@@ -1,5 +1,7 @@
 // The paths and the names of a manifest, each read once. Of paths: which entries are cited, their prints, whether a size is broken, and whether one stands twice. Of names: where each first
 // stands, whether a size is broken, and whether one is empty.
+#![tactic(auto)]
+
 ghost use Rattle.std.specs.Prelude.{◌≡◌, true, not, ◌||◌, ◌&&◌, ◌+◌, ◌≤◌, ◌<◌, eqb, ltb, length, take, get_or, replicate};
 ghost use Rattle.grammar.specs.Tree.{same};
 ghost use Rattle.text.specs.Reading.{pick};
@@ -17,7 +19,7 @@ ghost use Rattle.listed.specs.laws.Parts.{size_broken, path_before, slot, Kept, 
 use prints::Measure;
 
 // What is known of the paths of a manifest: which entry each entry cites, and `trace_time`; the print of each entry's path; whether one is of a broken size; whether one stands in two entries.
-#[derive(Drop)]
+#[derive(Clone, Copy)]
 pub struct PathFacts {
     pub cites: [usize; 32],
     pub trace: usize,
@@ -130,7 +132,7 @@ fn measured(s: &[u8], p: usize, texts: &mut [u8; 8448], slot: usize) -> Measure
 }
 
 // What is read of the paths of entries 0 to 31: their prints and lengths, and whether one is of a broken size.
-#[derive(Drop)]
+#[derive(Clone, Copy)]
 struct Own {
     prints: [u32; 32],
     lengths: [usize; 32],
@@ -175,7 +177,7 @@ fn read_paths(s: &[u8], ix: &[usize; 2470], texts: &mut [u8; 8448]) -> Own
 // ---- which entries are cited
 
 // What is read of the files that entries 0 to 31 cite: which entry each names, and whether one is of a broken size.
-#[derive(Drop)]
+#[derive(Clone, Copy)]
 struct Cites {
     cites: [usize; 32],
     broken: bool,
@@ -375,7 +377,7 @@ fn path_before(
 // ---- the names of machines
 
 // What is known of the names of a manifest: the positions at which different ones first stand, as far as 32 go, then zeros; whether one is of a broken size; whether a declared one is empty.
-#[derive(Drop)]
+#[derive(Clone, Copy)]
 pub struct NameFacts {
     pub firsts: [usize; 32],
     pub broken: bool,
@@ -433,7 +435,7 @@ pub fn names(s: &[u8], ix: &mut [usize; 2470]) -> NameFacts
 }
 
 // What is found of names: how many places of the table are taken then, whether a size is broken, whether a declared name is empty.
-#[derive(Drop)]
+#[derive(Clone, Copy)]
 struct Found {
     held: usize,
     broken: bool,
@@ -562,7 +564,7 @@ fn empty_name(outer: usize, length: usize) -> bool
 }
 
 // How many places of the table are taken, and the length of the name that was read; 1 where there was none, of which no rule speaks.
-#[derive(Drop)]
+#[derive(Clone, Copy)]
 struct Tally {
     held: usize,
     length: usize,

@@ -31,7 +31,7 @@ distinct (t ∷ l) = t ∷ without t (distinct l)
 unfoldable pub names_in : Manifest → List Text
 names_in m = distinct (flat (λ c. flat declared (the c)) (entries m))
 
--- a machine's number, by these names (0 also of a name that is not among them; theorem `cited-machine-numbered`)
+-- a machine's number, by these names (0 also of a name that is not among them; theorem `cited_machine_numbered`)
 unfoldable pub number_of : List Text → Whose → Machine
 number_of names host = record { 0 = 0 }
 number_of names (called t) = record { 0 = first_or 0 (same t) names 1 }

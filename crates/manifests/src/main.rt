@@ -1,10 +1,15 @@
 // What `reader::read` says of each manifest on standard input, a line each: its name and its refusal, 0 if it is accepted.
 // A line of the input is a comment from `#` on; or a name, a blank, and the manifest's bytes up to the line's end. `^` and two
 // hexadecimal digits are that byte, and `^=` is as many blanks as bring the manifest to 65,536 bytes.
-ghost use Rattle.std.specs.Prelude.{◌≡◌, true, ◌+◌, ◌<◌, ◌≤◌, length};
+#![tactic(auto)]
+
+ghost use Rattle.std.specs.Prelude.{◌≡◌, true, ◌+◌, ◌<◌, ◌≤◌, length, IfOk};
+
+use std::io;
+use std::io::Read;
 
 // A byte that a line stands for, and the position past it.
-#[derive(Drop)]
+#[derive(Clone, Copy)]
 struct Piece {
     byte: u8,
     past: usize,
@@ -105,14 +110,12 @@ fn manifest(s: &[u8], from: usize, end: usize, m: &mut [u8; 65537]) -> usize
 }
 
 // One line for a manifest.
-fn tell(name: &[u8], m: &[u8]) {
+fn tell(rt: &impl Print, name: &[u8], m: &[u8]) -> io::Result<()> {
     let mut ix: [usize; 2470] = [0; 2470];
     let mut lookups: [usize; 129] = [0; 129];
     let refusal = reader::read(m, &mut ix, &mut lookups);
-    io::write_all(1, name);
-    io::write_all(1, b" ");
-    io::print_decimal(1, refusal as u64);
-    io::write_all(1, b"\n");
+    rt.write_all(name)?;
+    println!(rt; " {refusal}")
 }
 
 // Past the blank after a name, where there is one.
@@ -124,29 +127,45 @@ fn past(gap: usize, end: usize) -> usize
 }
 
 // A line of the input that is no comment.
-fn line(s: &[u8], from: usize, end: usize)
+fn line(rt: &impl Print, s: &[u8], from: usize, end: usize) -> io::Result<()>
     requires { (from ≤ end) × (end ≤ length s.now) }
 {
     let gap = find(s, b' ', from, end);
     let start = past(gap, end);
     let mut m: [u8; 65537] = [0; 65537];
     let n = manifest(s, start, end, &mut m);
-    tell(&s[from..gap], &m[..n]);
+    tell(rt, &s[from..gap], &m[..n])
 }
 
-fn each(s: &[u8]) {
+fn each(rt: &impl Print, s: &[u8]) -> io::Result<()> {
     let mut at: usize = 0;
     while at < s.len() {
         let end = find(s, b'\n', at, s.len());
         if s[at] != b'#' {
-            line(s, at, end);
+            line(rt, s, at, end)?;
         }
         at = end + 1;
     }
+    Ok(())
 }
 
-fn main() {
-    let mut space = io::large_buffer();
-    let n = io::read_full(0, &mut space);
-    each(&space[..n]);
+// Reads until a buffer is full or the input ends; how many bytes the buffer has then.
+fn read_full(input: &mut impl Read, buf: &mut [u8]) -> io::Result<usize>
+    ensures { IfOk result (λ n. n ≤ length buf.new) }
+{
+    let mut done: usize = 0;
+    while done < buf.len() {
+        let n = input.read(&mut buf[done..])?;
+        if n == 0 {
+            break;
+        }
+        done += n;
+    }
+    Ok(done)
+}
+
+fn main(rt: HostRuntime) -> io::Result<()> {
+    let mut space = [0u8; 65536];
+    let n = read_full(&mut rt.reader(), &mut space)?;
+    each(&rt, &space[..n])
 }

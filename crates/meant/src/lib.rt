@@ -1,4 +1,6 @@
 // What a manifest means: what upper crates may ask of its tables, answered on every text and all tables.
+#![tactic(auto)]
+
 ghost use Rattle.std.specs.Prelude.{◌≡◌, List, ℕ, ◌<◌};
 ghost use Rattle.index.specs.Index.{entries_in};
 ghost use Rattle.named.specs.Named.{count_in};
@@ -8,7 +10,7 @@ use manifest::{Cited, Link, Relation, Timeline};
 use numbers::Machine;
 
 // The machine that an entry declares for its file: none, one for the whole file, or one for each id.
-#[derive(Drop)]
+#[derive(Clone, Copy)]
 pub enum Owned {
     Nobody,
     Whole(Machine),
@@ -16,7 +18,7 @@ pub enum Owned {
 }
 
 // The machine that a split file names for an id.
-#[derive(Drop)]
+#[derive(Clone, Copy)]
 pub enum Part {
     Undeclared,
     Of(Machine),

@@ -13,7 +13,7 @@ use Rattle.text.specs.laws.Peek.{skip_ge, found_lt}
 use Rattle.text.specs.laws.Readers.{Forward, next_inv, pick_case, pick_true, pick_false, past_done, bad_done, done_of, done_at}
 use Rattle.grammar.specs.Document.{after, items, many, in_front}
 use Rattle.values.specs.laws.Outs.{Gives, gives_done}
-use Rattle.manifest.specs.laws.Bools.{halves}
+use Rattle.manifest.proofs.laws.Bools.{halves}
 use Rattle.members.specs.laws.Walked.{reached, Over}
 
 -- ---- one after the other

@@ -17,9 +17,9 @@ use Rattle.values.specs.laws.Shapes.{Shape, array, object, text, yes_word, no_wo
 use Rattle.values.specs.laws.Standing.{shape_of}
 use Rattle.places.specs.Places.{inner}
 use Rattle.manifest.specs.Rows.{any}
-use Rattle.manifest.specs.laws.Judge.{tag, judged}
-use Rattle.manifest.specs.laws.Table.{lines, kind_at}
-use Rattle.manifest.specs.laws.Walk.{from}
+use Rattle.manifest.proofs.laws.Judge.{tag, judged}
+use Rattle.manifest.proofs.laws.Table.{lines, kind_at}
+use Rattle.manifest.proofs.laws.Walk.{from}
 use Rattle.members.specs.Members.{member_refusal_in, member_refusal_at}
 use Rattle.members.specs.declared.Walk.{Walk}
 use Rattle.members.specs.laws.Flaw.{sought}

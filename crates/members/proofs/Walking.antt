@@ -15,16 +15,16 @@ use Rattle.text.specs.laws.Peek.{skip_ge}
 use Rattle.text.specs.laws.Readers.{next_inv, pick_true, pick_false, done_of, done_at}
 use Rattle.grammar.specs.Tree.{Tree, no_members, members}
 use Rattle.grammar.specs.Document.{many, member, named, bound, name, value, most}
-use Rattle.grammar.specs.laws.Forward.{value_forward, member_forward}
-use Rattle.grammar.specs.laws.Levels.{value_more}
+use Rattle.grammar.proofs.laws.Forward.{value_forward, member_forward}
+use Rattle.grammar.proofs.laws.Levels.{value_more}
 use Rattle.values.specs.laws.Outs.{Gives}
 use Rattle.places.specs.Places.{inner}
 use Rattle.places.specs.laws.Standing.{name_string}
 use Rattle.manifest.specs.Rows.{any}
-use Rattle.manifest.specs.laws.Bools.{halves}
-use Rattle.manifest.specs.laws.Judge.{judged}
-use Rattle.manifest.specs.laws.Table.{lines, kind_at}
-use Rattle.manifest.specs.laws.Walk.{from}
+use Rattle.manifest.proofs.laws.Bools.{halves}
+use Rattle.manifest.proofs.laws.Judge.{judged}
+use Rattle.manifest.proofs.laws.Table.{lines, kind_at}
+use Rattle.manifest.proofs.laws.Walk.{from}
 use Rattle.members.specs.declared.Walk.{Walk}
 use Rattle.members.specs.declared.Known.{Known}
 use Rattle.members.specs.laws.Flaw.{sought}

@@ -8,7 +8,7 @@ use Rattle.manifest.specs.Kinds.{manifest}
 use Rattle.manifest.specs.View.{row}
 use Rattle.manifest.specs.Rules.{first}
 use Rattle.manifest.specs.Statements.{First, SoundRow}
-use Rattle.manifest.specs.laws.Order.{first_is}
+use Rattle.manifest.proofs.laws.Order.{first_is}
 use Rattle.members.specs.Members.{member_rules, member_refusal_of, member_refusal_in, member_refusal_at}
 use Rattle.members.specs.laws.Passed.{accepted_sound}
 

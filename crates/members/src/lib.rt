@@ -1,5 +1,7 @@
 // Refusals 8 and 9 over the text of a manifest object, before anything of it is kept: a known member twice in one object; a known member of a
 // wrong JSON type, an item that is no object, or a required member absent. One recursive walk serves all seven known objects and both refusals.
+#![tactic(auto)]
+
 ghost use Rattle.std.specs.Prelude.{◌≡◌, false, ◌||◌, ◌<◌, eqb, length, get_or, set};
 ghost use Rattle.text.specs.Reading.{pick};
 ghost use Rattle.grammar.specs.Tree.{no_members};
@@ -14,7 +16,7 @@ ghost use Rattle.table.specs.laws.Some.{some};
 // 10 `trace_time`, 11 the manifest object.
 
 // What a walk over a value finds: where it ends; a known member twice in one object; and if there is none, one of a wrong type or absent.
-#[derive(Drop)]
+#[derive(Clone, Copy)]
 struct Walk {
     end: usize,
     twice: bool,
@@ -22,7 +24,7 @@ struct Walk {
 }
 
 // A member that was walked over: the line about it, and what was found in its value.
-#[derive(Drop)]
+#[derive(Clone, Copy)]
 struct Known {
     line: usize,
     walk: Walk,

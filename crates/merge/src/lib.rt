@@ -1,4 +1,6 @@
 // The merge: from a manifest's bytes and a sheet's bytes to the answer, in memory that the caller lends.
+#![tactic(auto)]
+
 ghost use Rattle.std.specs.Prelude.{◌≡◌, pos, length, replicate};
 ghost use Rattle.merged.specs.Merged.{merged};
 ghost use Rattle.merge.specs.Memories.{room_of};

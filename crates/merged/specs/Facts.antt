@@ -1,5 +1,5 @@
 -- The files and sources of a sheet, each with what the manifest says of it. Assumes nothing.
-use Rattle.std.specs.Prelude.{Bool, true, false, List, [], ◌∷◌, map, ℕ, suc, eqb, ℤ, pos, length, get_or}
+use Rattle.std.specs.Prelude.{Bool, false, List, [], ◌∷◌, map, ℕ, suc, eqb, ℤ, pos, length, get_or}
 use Rattle.text.specs.Reading.{Text, pick}
 use Rattle.grammar.specs.Tree.{same}
 use Rattle.numbers.specs.declared.Machine.{Machine}

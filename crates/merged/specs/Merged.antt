@@ -1,15 +1,13 @@
 -- The merge: from a manifest's bytes, a sheet's bytes and the lengths of the lent memories to what is answered and what the memories hold. Assumes nothing.
-use Rattle.std.specs.Prelude.{Bool, true, false, ◌&&◌, List, [], ◌∷◌, ◌++◌, map, ℕ, ◌-◌, ◌*◌, eqb, leb, ℤ, pos, length, replicate}
+use Rattle.std.specs.Prelude.{Bool, ◌&&◌, List, ◌++◌, map, ℕ, ◌-◌, ◌*◌, eqb, leb, ℤ, pos, length, replicate}
 use Rattle.text.specs.Reading.{Text, pick}
 use Rattle.numbers.specs.Numbers.{clocks}
 use Rattle.manifest.specs.Meaning.{Meaning}
 use Rattle.manifest.specs.Manifest.{refusal_of, meaning_of}
-use Rattle.records.specs.Layout.{Record}
 use Rattle.sheet.specs.Twice.{again}
 use Rattle.sheet.specs.Sheets.{Out, refused, records, sheet_of, size_wrong}
 use Rattle.clocks.specs.declared.Answer.{Answer as EventAnswer}
 use Rattle.clocks.specs.Answers.{answers_of, time_of, kind_of, steps_of}
-use Rattle.merged.specs.declared.Summary.{Summary}
 use Rattle.merged.specs.declared.Answer.{Answer}
 use Rattle.merged.specs.declared.Answer.TheVariants.{Refused, Merged}
 use Rattle.merged.specs.Facts.{Parts, parts_of, facts_of}

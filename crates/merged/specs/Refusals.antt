@@ -2,7 +2,7 @@
 use Rattle.std.specs.Prelude.{Bool, true, false, not, ◌&&◌, List, [], ◌∷◌, ℕ, zero, suc, eqb, leb, ltb, length}
 use Rattle.text.specs.Reading.{pick}
 use Rattle.manifest.specs.Rows.{any}
-use Rattle.merged.specs.Facts.{Tie, untied, tied, pinned, Given, silent, whole, named, undeclared, FileFact, SourceFact, Facts}
+use Rattle.merged.specs.Facts.{Tie, untied, tied, pinned, Given, silent, whole, named, undeclared, FileFact, Facts}
 use Rattle.merged.specs.Machines.{sources_in, machine_count}
 
 -- a check: its number, and whether it applies

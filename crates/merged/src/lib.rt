@@ -1,15 +1,17 @@
 // What a merge answers: the kinds of answer. The definition of the merge stands in specs/.
+#![tactic(auto)]
+
 use numbers::Clock;
 
 // The trace-time clock; none for a sheet without files.
-#[derive(Drop)]
+#[derive(Clone, Copy)]
 pub enum Trace {
     Nothing,
     On(Clock),
 }
 
 // What an accepted merge counts: files, machines and events, and the trace-time clock.
-#[derive(Drop)]
+#[derive(Clone, Copy)]
 pub struct Summary {
     pub files: u8,
     pub machines: u8,
@@ -18,7 +20,7 @@ pub struct Summary {
 }
 
 // What a merge answers.
-#[derive(Drop)]
+#[derive(Clone, Copy)]
 pub enum Answer {
     Refused(u8),
     Merged(Summary),

@@ -1,4 +1,4 @@
 -- The named machines. In reading order.
+-- What is proved of it stands in proofs/: Theorems, laws.
 pub mod Named
-pub mod Theorems
 pub mod laws

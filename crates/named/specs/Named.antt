@@ -46,7 +46,7 @@ name_print s p = pick (eqb p 0) 0 (print_at s p)
 unfoldable pub print_table : Text → List ℕ → List ℕ
 print_table s ix = map (name_print s) (name_table s ix)
 
--- ---- what a table tells: 32 positions of names, then a print for each. Both are told of any table; theorems `count-is`, `number_is` say it of the manifest's
+-- ---- what a table tells: 32 positions of names, then a print for each. Both are told of any table; theorems `count_is`, `number_is` say it of the manifest's
 
 -- the first of the 32 places at which the position p stands; 32 if it stands at none
 unfoldable pub stands_at : List ℕ → ℕ → ℕ

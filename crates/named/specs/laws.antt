@@ -4,5 +4,3 @@ pub mod Firsts
 pub mod Kept
 pub mod Held
 pub mod Filled
-pub mod Once
-pub mod Meant

@@ -1,4 +1,6 @@
 // The named machines: a table of where the name of each first stands in the text, and the number of a machine by its name.
+#![tactic(auto)]
+
 ghost use Rattle.std.specs.Prelude.{◌≡◌, true, ◌≤◌, ◌<◌, length, get_or};
 ghost use Rattle.grammar.specs.Tree.{same};
 ghost use Rattle.index.specs.Index.{text_at};
@@ -9,14 +11,14 @@ ghost use Rattle.named.specs.laws.Kept.{Printed, Place};
 ghost use Rattle.named.specs.laws.Filled.{machine_at};
 
 // How many names the table holds so far, and at which place the next is looked for first: most entries name their machines in one order.
-#[derive(Drop)]
+#[derive(Clone, Copy)]
 struct Tally {
     held: usize,
     next: usize,
 }
 
 // The names of machines 1, 2, .. by where each first stands, at most 32 of them, then zeros; and their prints.
-#[derive(Drop)]
+#[derive(Clone, Copy)]
 pub struct Names {
     pub positions: [usize; 32],
     pub prints: [u32; 32],

@@ -1,4 +1,6 @@
 // The merge for programs in C and Rust: one function, whose answer is plain numbers.
+#![tactic(auto)]
+
 ghost use Rattle.std.specs.Prelude.{◌≡◌, ◌<◌, pos, length, replicate};
 ghost use Rattle.merged.specs.Merged.{merged};
 ghost use Rattle.merge.specs.Memories.{room_of};

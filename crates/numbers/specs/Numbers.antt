@@ -1,6 +1,6 @@
 -- How clocks are numbered: clock d (1 to 6) of machine m has number 6m + d - 1, file f's private clock has 192 + f; 224 clocks numbered 0 to 223.
 -- Assumes nothing.
-use Rattle.std.specs.Prelude.{Bool, true, false, cond, ◌&&◌, ℕ, ◌+◌, ◌*◌, ◌-◌, ◌/◌, ◌%◌, leb, ltb}
+use Rattle.std.specs.Prelude.{cond, ◌&&◌, ℕ, ◌+◌, ◌*◌, ◌-◌, ◌/◌, ◌%◌, leb, ltb}
 use Rattle.numbers.specs.declared.File.{File}
 use Rattle.numbers.specs.declared.Machine.{Machine}
 use Rattle.numbers.specs.declared.Clock.{Clock}

@@ -1,13 +1,12 @@
 -- A clock's number and what the clock is are the same knowledge: each way back undoes the other. So no two clocks share a number.
 -- Assumes nothing.
-use Rattle.std.specs.Prelude.{◌≡◌, refl, Bool, true, false, cond, ◌&&◌, ℕ, ◌+◌, ◌*◌, ◌-◌, ◌/◌, ◌%◌, ◌≤◌, ◌<◌, leb, ltb}
-use Rattle.std.proofs.Common.{sym, ap, ap₂, ◌∙◌, arith, lt-ltb, le-ltb, le-leb, ltb-true, ltb-false}
+use Rattle.std.specs.Prelude.{◌≡◌, refl, Bool, true, false, ℕ, ◌+◌, ◌*◌, ◌-◌, ◌/◌, ◌%◌, ◌≤◌, ◌<◌, ltb}
+use Rattle.std.proofs.Common.{ap, ap₂, arith, lt-ltb, le-ltb, le-leb, ltb-true, ltb-false}
 use Rattle.numbers.specs.declared.File.{File}
 use Rattle.numbers.specs.declared.Machine.{Machine}
 use Rattle.numbers.specs.declared.Clock.{Clock}
-use Rattle.numbers.specs.declared.Owner.{Owner}
 use Rattle.numbers.specs.declared.Owner.TheVariants.{Domain, Private, Nobody}
-use Rattle.numbers.specs.Numbers.{clocks, machines, files, no_clock, clock_of, private_of, what_is}
+use Rattle.numbers.specs.Numbers.{clocks, machines, files, clock_of, private_of, what_is}
 
 -- clock d of machine m has number 6m + d - 1
 pub domain_number : (d : ℕ) (m : Machine) → 1 ≤ d → d ≤ 6 → m.0 < machines → (clock_of d m).0 ≡ 6 * m.0 + d - 1

@@ -1,4 +1,6 @@
 // The three kinds of number: files, machines and clocks; and how clocks are numbered, which nothing else knows.
+#![tactic(auto)]
+
 ghost use Rattle.std.specs.Prelude.{◌≡◌};
 ghost use Rattle.numbers.specs.Numbers.{no_clock, clock_of, private_of, what_is};
 
@@ -9,19 +11,19 @@ pub const CLOCKS: usize = 224;
 const PRIVATE: u16 = 192;
 
 // A file of the sheet, from 0.
-#[derive(Drop)]
+#[derive(Clone, Copy)]
 pub struct File(pub u8);
 
 // A machine, from 0, which is the host.
-#[derive(Drop)]
+#[derive(Clone, Copy)]
 pub struct Machine(pub u8);
 
 // A clock, from 0; a number from CLOCKS on is no clock.
-#[derive(Drop)]
+#[derive(Clone, Copy)]
 pub struct Clock(pub u16);
 
 // What a clock is.
-#[derive(Drop)]
+#[derive(Clone, Copy)]
 pub enum Owner {
     // A domain, 1 to 6, of a machine.
     Domain(u8, Machine),

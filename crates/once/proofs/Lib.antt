@@ -8,3 +8,5 @@ pub mod ClocksAlone
 pub mod MachineAlone
 pub mod SyncAlone
 pub mod Order
+pub mod laws
+pub mod Theorems

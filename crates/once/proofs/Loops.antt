@@ -7,7 +7,7 @@ use native.Mathlib.Omega.{arith}
 use Rattle.text.specs.Reading.{Text}
 use Rattle.manifest.specs.Rules.{Rule, applies}
 use Rattle.index.specs.Index.{entries_in, manifest_of}
-use Rattle.index.specs.laws.Entries.{from_entry, applies_outside, applies_within, entry_past, entry_found, entry_on}
+use Rattle.index.proofs.laws.Entries.{from_entry, applies_outside, applies_within, entry_past, entry_found, entry_on}
 use Rattle.once.specs.laws.Parts.{in_entry}
 
 module _ (r : Rule) (s : Text) (ix : List ℕ) where

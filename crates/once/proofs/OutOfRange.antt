@@ -10,7 +10,7 @@ use Rattle.manifest.specs.View.{Cell, absent, wrong, many, one}
 use Rattle.manifest.specs.Rows.{Item, id, ids, the, holds, any, flat}
 use Rattle.manifest.specs.Rules.{no_id, refusal_14_id_out_of_range}
 use Rattle.index.specs.Index.{item_of, items_in, id_cell, item_by, entry_at}
-use Rattle.index.specs.laws.Entries.{from_past, from_here, item_at, items_are}
+use Rattle.index.proofs.laws.Entries.{from_past, from_here, item_at, items_are}
 use Rattle.once.specs.laws.Parts.{in_entry, ids_from}
 
 -- ---- the ids of an entry, one after the other

@@ -21,9 +21,9 @@ use Rattle.values.specs.declared.Integer.TheVariants.{In, Below, Above, None}
 use Rattle.manifest.specs.View.{Cell}
 use Rattle.manifest.specs.Rows.{ids, the, holds, any, flat}
 use Rattle.manifest.specs.Rules.{no_id, same_id, twice_in, refusal_14_id_out_of_range}
-use Rattle.manifest.specs.laws.Bools.{halves}
+use Rattle.manifest.proofs.laws.Bools.{halves}
 use Rattle.index.specs.Index.{item_of, items_in, id_cell, entry_at}
-use Rattle.index.specs.laws.Paths.{few_items}
+use Rattle.index.proofs.laws.Paths.{few_items}
 use Rattle.once.specs.Once.{twice_rule}
 use Rattle.once.specs.laws.Parts.{in_entry, ids_from, id_of, ids_in, Numbered}
 use Rattle.once.proofs.Ids.{OutOf64, below, above, id_none, id_in, id_out, id_wrong}

@@ -7,7 +7,7 @@ use Rattle.manifest.specs.Rules.{Rule, each, has_path, twice_in, refusal_14_id_o
 unfoldable pub path_twice : Manifest → Bool
 path_twice m = any_at (λ i e. holds (λ v. holds (λ t. any (holds (has_path t)) (take i (entries m))) (path v)) e) 0 (entries m)
 
--- 15, where it is told whether a path stands twice (theorem `twice-rule-is`)
+-- 15, where it is told whether a path stands twice (theorem `twice_rule_is`)
 unfoldable pub twice_rule : Bool → Rule
 twice_rule twice = record { number = 15; outside = λ m. twice; within = each (λ e. twice_in (ids e)) }
 

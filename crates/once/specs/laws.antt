@@ -1,3 +1,2 @@
 -- What the functions promise of each other, by entry and item; how 15 comes apart into paths and ids.
 pub mod Parts
-pub mod Told

@@ -1,4 +1,6 @@
 // Refusals 14 to 18: ids, what stands twice, and members that ask for others.
+#![tactic(auto)]
+
 ghost use Rattle.std.specs.Prelude.{◌≡◌, true, false, [], ◌∷◌, ◌≤◌, length};
 ghost use Rattle.manifest.specs.Rows.{the, holds, any, ids};
 ghost use Rattle.manifest.specs.Rules.{applies, first, no_id, same_id, twice_in, refusal_14_id_out_of_range, refusal_16_clocks_without_sync_to, refusal_17_machine_without_file, refusal_18_sync_to_without_file};
@@ -35,7 +37,7 @@ pub fn refusal(s: &[u8], ix: &[usize; 2470], twice: bool) -> u8
 // ---- 14, and the ids of 15
 
 // What is found of ids: one is out of range; one stands twice in an entry. Twice is looked for only where none is out of range.
-#[derive(Drop)]
+#[derive(Clone, Copy)]
 struct Found {
     out: bool,
     twice: bool,

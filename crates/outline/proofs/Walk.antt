@@ -14,7 +14,7 @@ use Rattle.text.specs.laws.Peek.{skip_ge, found_in}
 use Rattle.text.specs.laws.Readers.{past_done, pick_case}
 use Rattle.grammar.specs.Tree.{same}
 use Rattle.grammar.specs.Document.{value, name, many}
-use Rattle.grammar.specs.laws.Forward.{value_forward, name_forward}
+use Rattle.grammar.proofs.laws.Forward.{value_forward, name_forward}
 use Rattle.values.specs.Strings.{is_text, same_as}
 use Rattle.places.specs.declared.Member.{Member}
 use Rattle.places.specs.declared.Entry.{Entry}

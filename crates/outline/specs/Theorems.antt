@@ -12,9 +12,9 @@ use Rattle.manifest.specs.Rows.{Manifest}
 use Rattle.manifest.specs.Rules.{first, root, refusal_5_or_later, refusal, domain, refusal_6_no_version, refusal_7_version_not_1}
 use Rattle.manifest.specs.Manifest.{refusal_of}
 use Rattle.manifest.specs.Statements.{Untouched}
-use Rattle.manifest.specs.Theorems.{refusal_5}
-use Rattle.manifest.specs.laws.Bytes.{refusal_of_document}
-use Rattle.manifest.specs.laws.Order.{numbered, some_number, first_append}
+use Rattle.manifest.proofs.Theorems.{refusal_5}
+use Rattle.manifest.proofs.laws.Bytes.{refusal_of_document}
+use Rattle.manifest.proofs.laws.Order.{numbered, some_number, first_append}
 use Rattle.outline.specs.declared.Standing.TheVariants.{At, Refused}
 use Rattle.outline.specs.Outline.{root_at, versions_at, domain_at}
 use Rattle.outline.specs.Statements.{Rooted, stands_at}

@@ -1,5 +1,7 @@
 // The outline of a manifest's bytes: its start bytes (2), its outermost object (5), its version (6, 7), and the number of a clock's name.
 // Each question is answered on every text, at every position.
+#![tactic(auto)]
+
 ghost use Rattle.std.specs.Prelude.{◌≡◌, true, ◌<◌};
 ghost use Rattle.values.specs.Strings.{rest};
 ghost use Rattle.places.specs.Places.{next_member};
@@ -10,7 +12,7 @@ ghost use Rattle.outline.specs.laws.Versions.{misnumbered};
 ghost use Rattle.outline.specs.laws.Names.{names as allNames, capitals, Behind, ended_as, coarse_as};
 
 // Where the manifest object stands; or the document is refused as 5.
-#[derive(Drop)]
+#[derive(Clone, Copy)]
 pub enum Standing {
     At(usize),
     Refused,

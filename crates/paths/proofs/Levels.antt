@@ -9,8 +9,8 @@ use borrow.Author.Count.{below_more}
 use lib.ListN.{length, get_or, set, replicate, length-set, length-replicate, get_or-replicate}
 use lib.Seq.{get_or-set_same, get_or-set_other}
 use Rattle.paths.specs.Paths.{Net, dist, next}
-use Rattle.paths.specs.laws.Reach.{dist_in, dist_le, dist_rise, at_goal, goal_at}
-use Rattle.paths.specs.laws.Best.{next_is, next_zero, next_far}
+use Rattle.paths.proofs.laws.Reach.{dist_in, dist_le, dist_rise, at_goal, goal_at}
+use Rattle.paths.proofs.laws.Best.{next_is, next_zero, next_far}
 use Rattle.paths.specs.laws.Search.{Among, First, None, Selves, Level, Rest, Noted, Blank, State}
 use Rattle.paths.proofs.Picked.{Picked, picked_none, picked_skip, picked_put}
 

@@ -10,8 +10,8 @@ use lib.ListN.{length, get_or, set}
 use lib.Seq.{get_or-set_same, get_or-set_other}
 use Rattle.paths.specs.Paths.{Net, dist}
 use Rattle.paths.specs.Matrix.{far, held}
-use Rattle.paths.specs.laws.Reach.{dist_le, at_goal, goal_at}
-use Rattle.paths.specs.laws.Best.{next_near}
+use Rattle.paths.proofs.laws.Reach.{dist_le, at_goal, goal_at}
+use Rattle.paths.proofs.laws.Best.{next_near}
 use Rattle.paths.specs.laws.Search.{Bare, Among, Rest}
 
 -- a clock other than the target without a pair has no path

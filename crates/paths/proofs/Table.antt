@@ -9,9 +9,9 @@ use lib.ListN.{length, get_or, set, replicate, length-set, length-replicate, get
 use lib.Seq.{get_or-set_same, get_or-set_other}
 use Rattle.numbers.specs.Numbers.{clocks}
 use Rattle.paths.specs.Matrix.{far, is_graph, held, empty, graph_of, distances, nexts}
-use Rattle.paths.specs.laws.Reach.{outside}
-use Rattle.paths.specs.laws.Best.{next_far}
-use Rattle.paths.specs.laws.Table.{distances_is, nexts_is}
+use Rattle.paths.proofs.laws.Reach.{outside}
+use Rattle.paths.proofs.laws.Best.{next_far}
+use Rattle.paths.proofs.laws.Table.{distances_is, nexts_is}
 use Rattle.paths.specs.laws.Graph.{graph_held, graph_empty}
 use Rattle.paths.specs.laws.Search.{Selves, State}
 use Rattle.paths.proofs.Levels.{done}

@@ -11,11 +11,11 @@ use Rattle.paths.specs.declared.Route.{Route}
 use Rattle.paths.specs.declared.Route.TheVariants.{Steps, Nowhere, Short}
 use Rattle.paths.specs.Paths.{Net, dist, path}
 use Rattle.paths.specs.Matrix.{far, graph_of, distances, nexts, along, traced}
-use Rattle.paths.specs.laws.Reach.{outside, dist_le}
+use Rattle.paths.proofs.laws.Reach.{outside, dist_le}
 use Rattle.paths.specs.laws.Graph.{graph_small, graph_far}
-use Rattle.paths.specs.laws.Table.{at_distances}
-use Rattle.paths.specs.laws.Along.{along_trace}
-use Rattle.paths.specs.laws.Traced.{traced_nowhere, traced_short, traced_steps}
+use Rattle.paths.proofs.laws.Table.{at_distances}
+use Rattle.paths.proofs.laws.Along.{along_trace}
+use Rattle.paths.proofs.laws.Traced.{traced_nowhere, traced_short, traced_steps}
 
 pub drop_replicate : (n k x : ℕ) → drop k (replicate n x) ≡ replicate (n - k) x
 drop_replicate n zero x = let e : n ≡ n - 0 = omega arith in ap (λ (i : ℕ). replicate i x) e

@@ -1,4 +1,6 @@
 // The best paths to a target in a graph of clocks, which a matrix of bytes holds.
+#![tactic(auto)]
+
 ghost use Rattle.std.specs.Prelude.{◌≡◌, false, ◌++◌, ℕ, ◌+◌, ◌*◌, ◌≤◌, ◌<◌, length, get_or, drop};
 ghost use Rattle.numbers.specs.Numbers.{clocks};
 ghost use Rattle.paths.specs.Matrix.{pair_of, is_graph, held, graph_of, distances, nexts, along, traced};
@@ -9,21 +11,21 @@ ghost use Rattle.paths.specs.laws.Search.{Bare, First, None, Marked, Apart, Selv
 const FAR: u16 = 65535;
 
 // The distance and the next clock of each clock.
-#[derive(Drop)]
+#[derive(Clone, Copy)]
 pub struct Found {
     pub dist: [u16; numbers::CLOCKS],
     pub next: [u16; numbers::CLOCKS],
 }
 
 // Where the queue ends, and how many clocks are left without a distance.
-#[derive(Drop)]
+#[derive(Clone, Copy)]
 struct Ends {
     tail: usize,
     left: usize,
 }
 
 // How the tracing of a path ends: with so many steps, without a path, or in memory that is too short for it.
-#[derive(Drop)]
+#[derive(Clone, Copy)]
 pub enum Route {
     Steps(u16),
     Nowhere,

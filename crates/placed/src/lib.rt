@@ -1,4 +1,6 @@
 // Each event's answer in lent memory, from correspondences and events that stand at the front of longer lists.
+#![tactic(auto)]
+
 ghost use Rattle.std.specs.Prelude.{◌≡◌, ◌++◌, min, length, take, drop, replicate};
 ghost use Rattle.clocks.specs.Answers.{filled};
 ghost use Rattle.placed.specs.Placed.{world_in, cells, cleared};
@@ -9,7 +11,7 @@ use numbers::Clock;
 const CELLS: usize = numbers::CLOCKS * numbers::CLOCKS;
 
 // What is given beside the lists: how many correspondences and events there are, and the numbers of the world.
-#[derive(Drop)]
+#[derive(Clone, Copy)]
 pub struct Given {
     pub links: usize,
     pub events: usize,
@@ -20,7 +22,7 @@ pub struct Given {
 }
 
 // What an accepted manifest and an accepted sheet that fit each other give beside the lists.
-#[derive(Drop)]
+#[derive(Clone, Copy)]
 pub struct Known {
     pub sources: usize,
     pub at: u32,
@@ -28,7 +30,7 @@ pub struct Known {
 }
 
 // What is told of both.
-#[derive(Drop)]
+#[derive(Clone, Copy)]
 pub enum Told {
     Refused(u8),
     Accepted(Known),

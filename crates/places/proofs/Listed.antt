@@ -2,7 +2,7 @@
 use mathlib.Core.Path.{◌≡◌, refl, sym, ap, ◌∙◌}
 use mathlib.Core.Bool.{Bool}
 use mathlib.Core.List.{List, [], ◌∷◌}
-use Prim.Native.Nat.{ℕ, ◌+◌, ◌-◌, ◌≤◌, ◌<◌}
+use Prim.Native.Nat.{ℕ, ◌+◌, ◌≤◌, ◌<◌}
 use native.Mathlib.Omega.{arith}
 use lib.ListN.{length}
 use borrow.Author.Tests.{eq-eqb, ne_eqb}
@@ -15,7 +15,7 @@ use Rattle.text.specs.laws.Peek.{skip_ge}
 use Rattle.text.specs.laws.Readers.{past_done, next_was, pick_true, pick_false}
 use Rattle.grammar.specs.Tree.{Tree, same}
 use Rattle.grammar.specs.Document.{value, name, many}
-use Rattle.grammar.specs.laws.Forward.{value_forward, name_forward}
+use Rattle.grammar.proofs.laws.Forward.{value_forward, name_forward}
 use Rattle.values.specs.Strings.{is_text, same_as}
 use Rattle.values.specs.laws.Outs.{Stops, stops_next, stops_is, scan_done}
 use Rattle.places.specs.declared.Member.{Member}

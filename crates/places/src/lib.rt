@@ -1,25 +1,27 @@
 // The members of the object at a position of a JSON text and the items of the array at a position, by their places. Each question is
 // answered on every text, at every position.
+#![tactic(auto)]
+
 ghost use Rattle.std.specs.Prelude.{◌≡◌};
 ghost use Rattle.places.specs.Places.{member_at, item_from, first_item, next_item, entry_from, first_member, next_member};
 ghost use Rattle.places.specs.laws.Tally.{noted};
 
 // How many members have a name, 0, 1 or 2 for more, and where the first one's value starts.
-#[derive(Drop)]
+#[derive(Clone, Copy)]
 pub struct Member {
     pub count: u8,
     pub at: usize,
 }
 
 // An item of an array: where its value starts and where it ends; or the end of the array.
-#[derive(Drop)]
+#[derive(Clone, Copy)]
 pub enum Step {
     Item(usize, usize),
     End,
 }
 
 // A member of an object: where its name starts, where its value starts and where that ends; or the end of the object.
-#[derive(Drop)]
+#[derive(Clone, Copy)]
 pub enum Entry {
     Named(usize, usize, usize),
     Last,

@@ -1,5 +1,5 @@
 -- The print of a text: a number that equal texts share and few others, so that most texts that differ are told apart without being compared. Equal texts have equal prints, and
--- the empty text alone has 0 (theorems `one-text-one-print`, `print-0-of-nothing`). And the first bytes of a text in memory. Assumes nothing.
+-- the empty text alone has 0 (theorems `one_text_one_print`, `print_0_of_nothing`). And the first bytes of a text in memory. Assumes nothing.
 use Rattle.std.specs.Prelude.{List, [], ◌∷◌, ◌++◌, ℕ, zero, suc, ◌+◌, ◌-◌, ◌*◌, ◌/◌, ◌%◌, eqb, length, take, drop, replicate}
 use Rattle.text.specs.Reading.{Text, pick}
 use Rattle.index.specs.Index.{text_at, col_of, listed}

@@ -1,4 +1,6 @@
 // A text unescaped: its length, and its print, a number by which texts are told apart quickly.
+#![tactic(auto)]
+
 ghost use Rattle.std.specs.Prelude.{◌≡◌, [], ◌∷◌, ◌+◌, ◌^◌, ◌≤◌, ◌<◌, length};
 ghost use Rattle.text.specs.Reading.{Text, peek, part};
 ghost use Rattle.text.specs.Strings.{utf8};
@@ -206,7 +208,7 @@ pub fn unescape(s: &[u8], p: usize, text: &mut [u8; 256]) -> usize
 }
 
 // The length of a text, and its print.
-#[derive(Drop)]
+#[derive(Clone, Copy)]
 pub struct Measure {
     pub length: usize,
     pub print: u32,

@@ -15,9 +15,9 @@ use Rattle.reader.specs.laws.Tables.{zeros, Facts, refused_zeros, accepted_index
 use Rattle.named.specs.Named.{name_table, print_table}
 use Rattle.finds.specs.Finds.{from_one, of_entries, lookups}
 use Rattle.sizes.specs.Sizes.{broken_paths, broken_names, sizes_rules}
-use Rattle.sizes.specs.Theorems.{sizes_are}
+use Rattle.sizes.proofs.Theorems.{sizes_are}
 use Rattle.once.specs.Once.{path_twice, once_rules}
-use Rattle.once.specs.Theorems.{once_are}
+use Rattle.once.proofs.Theorems.{once_are}
 use Rattle.listed.specs.declared.PathFacts.{PathFacts}
 use Rattle.listed.specs.Settled.{settled_in}
 use Rattle.listed.specs.Theorems.{settled_is}

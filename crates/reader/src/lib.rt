@@ -1,4 +1,6 @@
 // The manifest's reader: refusals 1 to 24 in their order.
+#![tactic(auto)]
+
 ghost use Rattle.std.specs.Prelude.{◌≡◌, ◌||◌, replicate};
 ghost use Rattle.manifest.specs.Rules.{first};
 ghost use Rattle.manifest.specs.Manifest.{refusal_of};
@@ -18,7 +20,7 @@ fn either(a: bool, b: bool) -> bool
 }
 
 // What is judged: the refusal, and what is known of the paths, by which others are judged.
-#[derive(Drop)]
+#[derive(Clone, Copy)]
 struct Verdict {
     refusal: u8,
     paths: PathFacts,

@@ -1,5 +1,7 @@
 // The records of a sheet: how each lies in the bits, and which of the refusals 26 to 30 applies in it.
 // Reading and judging are apart: a reader turns bits into a record, and a test looks at the record and a small state.
+#![tactic(auto)]
+
 ghost use Rattle.std.specs.Prelude.{◌≡◌, ◌||◌, ◌&&◌, ◌+◌, ◌*◌, ◌^◌, ◌<◌, ◌≤◌, length};
 ghost use Rattle.records.specs.Layout.{file_here, source_here, snapshot_here, event_here, source, snapshot, event, ending};
 ghost use Rattle.records.specs.Readers.{head_at, source_at, snapshot_at, event_at};
@@ -16,7 +18,7 @@ const FAR: usize = 0x10_0000_0000;
 const LONGEST: usize = 0xffff_ffff;
 
 // A file record up to its path, which starts 15 bits after the record. A claim of 0 is none.
-#[derive(Drop)]
+#[derive(Clone, Copy)]
 pub struct Head {
     pub container: bool,
     pub claim: u8,
@@ -24,14 +26,14 @@ pub struct Head {
 }
 
 // A source record: a file of the sheet, and the embedded machine id.
-#[derive(Drop)]
+#[derive(Clone, Copy)]
 pub struct Source {
     pub file: File,
     pub id: u32,
 }
 
 // A snapshot record: one source's two clocks, 1 to 6, and what each read.
-#[derive(Drop)]
+#[derive(Clone, Copy)]
 pub struct Snapshot {
     pub source: u8,
     pub clock: u8,
@@ -41,7 +43,7 @@ pub struct Snapshot {
 }
 
 // An event record: its source, a clock, 1 to 6 or 0 for the file's private clock, and the reading.
-#[derive(Drop)]
+#[derive(Clone, Copy)]
 pub struct Event {
     pub source: u8,
     pub clock: u8,
@@ -49,7 +51,7 @@ pub struct Event {
 }
 
 // What judging an event record needs of it: its source and its clock. The 64 bits of the reading decide nothing.
-#[derive(Drop)]
+#[derive(Clone, Copy)]
 struct Label {
     source: u8,
     clock: u8,
@@ -57,7 +59,7 @@ struct Label {
 
 // What judging a record needs of those before it: the bit position, the last kind, how many of each kind there were,
 // and which files are containers (bit f of `containers` is file f). Plain numbers, so that no earlier byte is needed.
-#[derive(Drop)]
+#[derive(Clone, Copy)]
 pub struct State {
     pub at: usize,
     pub last: u8,
@@ -69,7 +71,7 @@ pub struct State {
 }
 
 // What a record does: the state after it, the end of the sheet, or a refusal, 26 to 30. Bad(0) is no state of a sheet.
-#[derive(Drop)]
+#[derive(Clone, Copy)]
 pub enum Step {
     Next(State),
     End,

@@ -1,4 +1,6 @@
 // What was told of a manifest and a sheet, settled in memory that the caller lends: a refusal leaves zeros, and what is known is answered.
+#![tactic(auto)]
+
 ghost use Rattle.std.specs.Prelude.{◌≡◌, ◌&&◌, leb, pos, length, replicate};
 ghost use Rattle.settled.specs.Settled.{room_in, fitted_in, settled_in};
 

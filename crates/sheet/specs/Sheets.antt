@@ -33,7 +33,7 @@ unfoldable pub records_from : ℕ → List ℕ → State → Out
 records_from zero s st = refused 26
 records_from (suc n) s st = onward (record_at s st.at) (λ m. records_from n s m) (step_at s st)
 
--- the sheet's records; there are fewer than bits (`sheet-found` shows that the bound is never met)
+-- the sheet's records; there are fewer than bits (`sheet_found` shows that the bound is never met)
 unfoldable pub sheet_of : List ℕ → Out
 sheet_of s = records_from (suc (8 * length s)) s start
 

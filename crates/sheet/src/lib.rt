@@ -1,4 +1,6 @@
 // A sheet: the refusals 25 to 31, or a table of where its records lie.
+#![tactic(auto)]
+
 ghost use Rattle.std.specs.Prelude.{◌≡◌, ◌+◌, ◌-◌, ◌*◌, ◌<◌, ◌≤◌, length, eqb};
 ghost use Rattle.records.specs.Layout.{bytes_at, path_here, file_here, size_of};
 ghost use Rattle.records.specs.Readers.{path_at};
@@ -16,7 +18,7 @@ use records::{Source, State, Step};
 const LONGEST: usize = 65536;
 
 // Records of one kind that have one size: how many there are, and the bit position of the first.
-#[derive(Drop)]
+#[derive(Clone, Copy)]
 pub struct Run {
     pub count: usize,
     pub at: usize,
@@ -25,7 +27,7 @@ pub struct Run {
 // An accepted sheet. Kinds never go down and files start at bit 0, so these seven numbers are the whole table: source i lies 40 * i bits
 // after the first, snapshot i 142 * i, event i 75 * i, and each is read where it is asked for. There is nothing to fill, to copy
 // or to lend, and nothing to promise of memory past the last record.
-#[derive(Drop)]
+#[derive(Clone, Copy)]
 pub struct Table {
     pub files: usize,
     pub sources: Run,
@@ -34,14 +36,14 @@ pub struct Table {
 }
 
 // What reading a sheet gives.
-#[derive(Drop)]
+#[derive(Clone, Copy)]
 pub enum Sheet {
     Refused(u8),
     Listed(Table),
 }
 
 // Where reading ended: the fault, or 0 at the end record, and the state before that record.
-#[derive(Drop)]
+#[derive(Clone, Copy)]
 struct Ended {
     fault: u8,
     state: State,

@@ -2,12 +2,16 @@
 // single records of one sheet, and whether it is what was written there.
 // A line of the input is empty; or a comment, from `#` on; or a name, a colon, and the sheet's bytes, each as two hexadecimal digits in lower
 // case. `=` is as many zero bytes as bring the sheet to 65,536 bytes. Any other byte is passed over.
-ghost use Rattle.std.specs.Prelude.{◌≡◌, ◌<◌, ◌≤◌, length};
+#![tactic(auto)]
+
+ghost use Rattle.std.specs.Prelude.{◌≡◌, ◌<◌, ◌≤◌, length, IfOk};
 
 use sheet::{Run, Sheet, Table};
+use std::io;
+use std::io::Read;
 
 // A byte that a line stands for, and the position past it.
-#[derive(Drop)]
+#[derive(Clone, Copy)]
 struct Piece {
     byte: u8,
     past: usize,
@@ -85,143 +89,169 @@ fn bytes(s: &[u8], from: usize, end: usize, m: &mut [u8; 65537]) -> usize
 }
 
 // A number behind what it counts.
-fn tell_number(what: &[u8], n: u64) {
-    io::write_all(1, what);
-    io::print_decimal(1, n);
+fn tell_number(rt: &impl Print, what: &[u8], n: u64) -> io::Result<()> {
+    rt.write_all(what)?;
+    rt.print(n)
 }
 
 // How many records of a kind there are, and where the first lies.
-fn tell_run(kind: &[u8], r: Run) {
-    tell_number(kind, r.count as u64);
-    tell_number(b" at ", r.at as u64);
+fn tell_run(rt: &impl Print, kind: &[u8], r: Run) -> io::Result<()> {
+    tell_number(rt, kind, r.count as u64)?;
+    tell_number(rt, b" at ", r.at as u64)
 }
 
 // What an accepted sheet holds.
-fn tell_table(t: Table) {
-    tell_number(b": files ", t.files as u64);
-    tell_run(b" sources ", t.sources);
-    tell_run(b" snapshots ", t.snapshots);
-    tell_run(b" events ", t.events);
+fn tell_table(rt: &impl Print, t: Table) -> io::Result<()> {
+    tell_number(rt, b": files ", t.files as u64)?;
+    tell_run(rt, b" sources ", t.sources)?;
+    tell_run(rt, b" snapshots ", t.snapshots)?;
+    tell_run(rt, b" events ", t.events)
 }
 
 // One line for a sheet.
-fn tell(name: &[u8], m: &[u8]) {
-    io::write_all(1, name);
+fn tell(rt: &impl Print, name: &[u8], m: &[u8]) -> io::Result<()> {
+    rt.write_all(name)?;
     match sheet::read(m) {
         Sheet::Refused(k) => {
-            tell_number(b": refused ", k as u64);
+            tell_number(rt, b": refused ", k as u64)?;
         }
         Sheet::Listed(t) => {
-            tell_table(t);
+            tell_table(rt, t)?;
         }
     }
-    io::write_all(1, b"\n");
+    rt.write_all(b"\n")
 }
 
 // A line of the input that is neither empty nor a comment. The colon is no digit, so that it may stay in front of the bytes.
-fn line(s: &[u8], from: usize, end: usize)
+fn line(rt: &impl Print, s: &[u8], from: usize, end: usize) -> io::Result<()>
     requires { (from ≤ end) × (end ≤ length s.now) }
 {
     let colon = find(s, b':', from, end);
     let mut m: [u8; 65537] = [0; 65537];
     let n = bytes(s, colon, end, &mut m);
-    tell(&s[from..colon], &m[..n]);
+    tell(rt, &s[from..colon], &m[..n])
 }
 
 // Every line of the input.
-fn each(s: &[u8]) {
+fn each(rt: &impl Print, s: &[u8]) -> io::Result<()> {
     let mut at: usize = 0;
     while at < s.len() {
         let end = find(s, b'\n', at, s.len());
         if at < end && s[at] != b'#' {
-            line(s, at, end);
+            line(rt, s, at, end)?;
         }
         at = end + 1;
     }
+    Ok(())
 }
 
 // The line of one trial of a reader.
-fn told(ok: bool, what: &[u8]) {
-    io::write_all(1, what);
+fn told(rt: &impl Print, ok: bool, what: &[u8]) -> io::Result<()> {
+    rt.write_all(what)?;
     if ok {
-        io::write_all(1, b": yes\n");
+        rt.write_all(b": yes\n")
     } else {
-        io::write_all(1, b": NO\n");
+        rt.write_all(b": NO\n")
     }
 }
 
 // Where the files of a sheet lie.
-fn read_places(s: &[u8]) {
+fn read_places(rt: &impl Print, s: &[u8]) -> io::Result<()> {
     let places = sheet::file_places(s, 2);
     told(
+        rt,
         (places[0] == 0) & (places[1] == 23) & (places[2] == 0),
         b"the places of two files",
-    );
+    )
 }
 
 // The head of a file that is not the first.
-fn read_head(s: &[u8]) {
+fn read_head(rt: &impl Print, s: &[u8]) -> io::Result<()> {
     let h = records::head_at(s, 23);
     told(
+        rt,
         h.container & (h.claim == 0) & (h.length == 2),
         b"the second file, a container with no claim",
-    );
+    )
 }
 
 // Its path, and paths that differ in a byte or in their length.
-fn read_path(s: &[u8]) {
-    told(sheet::same_path(s, 23, b"bc"), b"its path");
-    told(!sheet::same_path(s, 23, b"bd"), b"no other path");
-    told(!sheet::same_path(s, 23, b"b"), b"no shorter path");
+fn read_path(rt: &impl Print, s: &[u8]) -> io::Result<()> {
+    told(rt, sheet::same_path(s, 23, b"bc"), b"its path")?;
+    told(rt, !sheet::same_path(s, 23, b"bd"), b"no other path")?;
+    told(rt, !sheet::same_path(s, 23, b"b"), b"no shorter path")
 }
 
 // A source with the highest id.
-fn read_source(s: &[u8]) {
+fn read_source(rt: &impl Print, s: &[u8]) -> io::Result<()> {
     let o = records::source_at(s, 94);
-    told((o.file.0 == 0) & (o.id == 4294967295), b"the second source");
+    told(
+        rt,
+        (o.file.0 == 0) & (o.id == 4294967295),
+        b"the second source",
+    )
 }
 
 // A snapshot with a negative reading and another.
-fn read_snapshot(s: &[u8]) {
+fn read_snapshot(rt: &impl Print, s: &[u8]) -> io::Result<()> {
     let n = records::snapshot_at(s, 134);
     told(
+        rt,
         (n.source == 1) & (n.clock == 1) & (n.reading == -1),
         b"the snapshot, on its first clock",
-    );
+    )?;
     told(
+        rt,
         (n.clock2 == 2) & (n.reading2 == 5),
         b"the snapshot, on its second clock",
-    );
+    )
 }
 
 // An event whose reading is the lowest of 64 bits.
-fn read_event(s: &[u8]) {
+fn read_event(rt: &impl Print, s: &[u8]) -> io::Result<()> {
     let e = records::event_at(s, 276);
     told(
+        rt,
         (e.source == 0) & (e.clock == 0),
         b"the event, on the private clock",
-    );
+    )?;
     told(
+        rt,
         e.reading == -9223372036854775807 - 1,
         b"the event, at the lowest reading",
-    );
+    )
 }
 
 // What the readers give at the places of a sheet's records.
-fn read_back() {
+fn read_back(rt: &impl Print) -> io::Result<()> {
     let s: &[u8] =
         b"\x2c\x02\xc2\x60\x09\x89\x8d\x00\x00\x00\x00\x01\x03\xff\xff\xff\xfd\x84\xff\xff\xff\xff\xff\xff\xff\xff\xa0\x00\x00\x00\x00\x00\x00\x00\x58\x01\x00\x00\x00\x00\x00\x00\x00\x00\x00";
-    read_places(s);
-    read_head(s);
-    read_path(s);
-    read_source(s);
-    read_snapshot(s);
-    read_event(s);
+    read_places(rt, s)?;
+    read_head(rt, s)?;
+    read_path(rt, s)?;
+    read_source(rt, s)?;
+    read_snapshot(rt, s)?;
+    read_event(rt, s)
 }
 
-fn main() {
-    let mut space = io::large_buffer();
-    let n = io::read_full(0, &mut space);
-    each(&space[..n]);
-    read_back();
+// Reads until a buffer is full or the input ends; how many bytes the buffer has then.
+fn read_full(input: &mut impl Read, buf: &mut [u8]) -> io::Result<usize>
+    ensures { IfOk result (λ n. n ≤ length buf.new) }
+{
+    let mut done: usize = 0;
+    while done < buf.len() {
+        let n = input.read(&mut buf[done..])?;
+        if n == 0 {
+            break;
+        }
+        done += n;
+    }
+    Ok(done)
+}
+
+fn main(rt: HostRuntime) -> io::Result<()> {
+    let mut space = [0u8; 65536];
+    let n = read_full(&mut rt.reader(), &mut space)?;
+    each(&rt, &space[..n])?;
+    read_back(&rt)
 }

@@ -9,7 +9,7 @@ use Rattle.text.specs.laws.Readers.{pick_true, pick_false}
 use Rattle.manifest.specs.Rows.{Manifest}
 use Rattle.manifest.specs.Rules.{Rule, applies, first}
 use Rattle.index.specs.Index.{entries_in, manifest_of}
-use Rattle.index.specs.laws.Entries.{entry_cell, from_entry, applies_outside, applies_within, entry_past, entry_found, entry_on}
+use Rattle.index.proofs.laws.Entries.{entry_cell, from_entry, applies_outside, applies_within, entry_past, entry_found, entry_on}
 
 -- of two tests the first holds; and it does not: the second decides
 module _ (x y : Bool) {a w : Bool} (ew : w ≡ (x || y)) (ea : a ≡ x) where

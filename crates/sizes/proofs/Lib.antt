@@ -5,3 +5,5 @@ pub mod Size
 pub mod Clock
 pub mod Both
 pub mod Order
+pub mod laws
+pub mod Theorems

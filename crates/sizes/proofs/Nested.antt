@@ -9,7 +9,7 @@ use Rattle.text.specs.Reading.{Text, pick}
 use Rattle.text.specs.laws.Readers.{pick_true, pick_false}
 use Rattle.manifest.specs.View.{Cell, absent, wrong, many, one}
 use Rattle.manifest.specs.Rows.{Clocks, SyncTo, its_clocks, its_syncs, own_clock, sync_to, sync_clock, the, holds, any, flat, cited_clocks}
-use Rattle.manifest.specs.laws.Lists.{any_append}
+use Rattle.manifest.proofs.laws.Lists.{any_append}
 use Rattle.index.specs.Index.{text_at, text_cell, at, col_of, sync_by, clocks_by, entry_by, entry_at}
 
 -- the position p of a value inside the value at another position

@@ -8,7 +8,7 @@ use Rattle.manifest.specs.Rows.{Manifest}
 use Rattle.manifest.specs.Rules.{Rule, applies, first, refusal_11_unknown_clock_name, refusal_12_machine_with_machines}
 use Rattle.index.specs.Index.{manifest_of}
 use Rattle.sizes.specs.Sizes.{size_rule, empty_rule, sizes_rules}
-use Rattle.sizes.specs.laws.Told.{empty_told}
+use Rattle.sizes.proofs.laws.Told.{empty_told}
 use Rattle.sizes.proofs.Judged.{first_hit, first_miss}
 use Rattle.sizes.proofs.Size.{told_decides}
 

@@ -12,7 +12,7 @@ use Rattle.manifest.specs.View.{Cell, absent, one}
 use Rattle.manifest.specs.Rows.{Item, machines_of, every, holds, any_at, entries}
 use Rattle.manifest.specs.Rules.{applies, most_entries, most_items}
 use Rattle.index.specs.Index.{at, col_of, entries_in, items_in, listed, item_by, item_of, items_from, entry_by, entry_at, manifest_of}
-use Rattle.index.specs.laws.Entries.{from, listed_length, entry_cell, entries_are, from_entry, applies_is}
+use Rattle.index.proofs.laws.Entries.{from, listed_length, entry_cell, entries_are, from_entry, applies_is}
 use Rattle.sizes.specs.Sizes.{size_rule}
 
 -- ---- counts

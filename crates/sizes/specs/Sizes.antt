@@ -11,7 +11,7 @@ broken_paths m = in_trace_time (λ t. holds no_path (trace_file t)) m || any (ho
 unfoldable pub broken_names : Manifest → Bool
 broken_names m = in_trace_time (λ t. holds no_name (trace_machine t)) m || any (holds (λ e. any no_name (cited_machines e) || any (outside_of 0 64) (declared e))) (entries m)
 
--- 10, where it is told whether the paths or the names break it (theorem `size-rule-is`)
+-- 10, where it is told whether the paths or the names break it (theorem `size_rule_is`)
 unfoldable pub size_rule : Bool → Rule
 size_rule broken = record {
   number = 10;
@@ -19,7 +19,7 @@ size_rule broken = record {
   within = each (λ e. ltb most_items (length (every (machines_of e))));
 }
 
--- 13, where it is told (theorem `sizes-are`)
+-- 13, where it is told (theorem `sizes_are`)
 unfoldable pub empty_rule : Bool → Rule
 empty_rule empty = record { number = 13; outside = λ m. empty; within = each (λ e. false) }
 

@@ -1,4 +1,6 @@
 // Refusals 10 to 13: sizes, clock names, machine with machines, empty names. Of paths and names it is told.
+#![tactic(auto)]
+
 ghost use Rattle.std.specs.Prelude.{◌≡◌, eqb};
 ghost use Rattle.text.specs.Reading.{pick};
 ghost use Rattle.manifest.specs.View.{one};

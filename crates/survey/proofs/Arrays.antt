@@ -12,8 +12,8 @@ use Rattle.text.specs.laws.Peek.{skip_ge}
 use Rattle.text.specs.laws.Readers.{next_inv, next_was, pick_true, pick_false, done_of, done_at, past_done}
 use Rattle.grammar.specs.Tree.{Tree, null, bool, num, str, arr, obj, trees, list_of_trees}
 use Rattle.grammar.specs.Document.{array_tree, value, many}
-use Rattle.grammar.specs.laws.Firm.{either_array}
-use Rattle.grammar.specs.laws.Forward.{value_forward}
+use Rattle.grammar.proofs.laws.Firm.{either_array}
+use Rattle.grammar.proofs.laws.Forward.{value_forward}
 use Rattle.values.specs.Stands.{kind_of, kind_by, kind_at}
 use Rattle.values.specs.Theorems.{kind_stands}
 use Rattle.values.specs.declared.Kind.TheVariants.{Nothing}
@@ -21,15 +21,15 @@ use Rattle.places.specs.Places.{place, item_place, listed, items_at}
 use Rattle.places.specs.laws.Paired.{many_paired}
 use Rattle.manifest.specs.Statements.{All, all_none, all_one}
 use Rattle.manifest.specs.Rows.{any}
-use Rattle.manifest.specs.laws.Judge.{judged}
-use Rattle.manifest.specs.laws.Table.{kind_at as kindOfNumber}
+use Rattle.manifest.proofs.laws.Judge.{judged}
+use Rattle.manifest.proofs.laws.Table.{kind_at as kindOfNumber}
 use Rattle.members.specs.laws.Flaw.{sought}
 use Rattle.table.specs.Table.{wanted_of}
 use Rattle.table.specs.laws.Lines.{item_of}
 use Rattle.members.specs.laws.Judged.{items_judged}
 use Rattle.index.specs.Index.{items_of, rows}
-use Rattle.index.specs.laws.Put.{Put, put_none, put_one, put_before, put_row, put_same}
-use Rattle.index.specs.laws.Rows.{rows_length}
+use Rattle.index.proofs.laws.Put.{Put, put_none, put_one, put_before, put_row, put_same}
+use Rattle.index.proofs.laws.Rows.{rows_length}
 use Rattle.fills.specs.laws.Blank.{Blank, blank_on, blank_same, blank_put, put_rest}
 use Rattle.survey.specs.laws.Walked.{Spot, spotted, spot, Fine}
 use Rattle.survey.specs.laws.Bare.{Bare}

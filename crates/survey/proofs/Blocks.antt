@@ -9,8 +9,8 @@ use Rattle.text.specs.Class.{skip}
 use Rattle.manifest.specs.Names.{bytes}
 use Rattle.manifest.specs.Statements.{All, all_none, all_one}
 use Rattle.index.specs.Index.{column, items_of, rows, item_row, entry_row, block}
-use Rattle.index.specs.laws.Back.{block_length}
-use Rattle.index.specs.laws.Put.{put_same}
+use Rattle.index.proofs.laws.Back.{block_length}
+use Rattle.index.proofs.laws.Put.{put_same}
 use Rattle.survey.specs.laws.Bare.{Bare}
 use Rattle.survey.specs.laws.Walked.{Spot, Fine, Told, Files}
 use Rattle.survey.proofs.Arrays.{places, Collecting, Collected, collect_start, collect_none, collect_on, collect_end, array_places}

@@ -19,12 +19,12 @@ use Rattle.grammar.specs.Document.{name}
 use Rattle.values.specs.Stands.{Stands}
 use Rattle.values.specs.laws.Outs.{Gives}
 use Rattle.manifest.specs.Names.{bytes}
-use Rattle.manifest.specs.laws.Judge.{tag}
+use Rattle.manifest.proofs.laws.Judge.{tag}
 use Rattle.table.specs.Table.{line_at, wanted_of, value_kind}
 use Rattle.table.specs.laws.Looking.{LineOf}
 use Rattle.table.specs.laws.Some.{some}
 use Rattle.index.specs.Index.{column, items_of, rows, item_row, entry_row, block}
-use Rattle.index.specs.laws.Put.{Put, put_none, put_before, put_same, put_length}
+use Rattle.index.proofs.laws.Put.{Put, put_none, put_before, put_same, put_length}
 use Rattle.fills.specs.laws.Blank.{Blank, blank_on, put_rest}
 use Rattle.survey.specs.laws.Walked.{Fine, Fits, Entered, slot, Noted, Row, Inner, gone, stood, Kept, RowAt, clock_numbers, Clocks, ClocksAt, Machines, MachinesAt, Told, Holds, Puts, EntryPuts, EntryHolds}
 use Rattle.survey.proofs.Stepping.{stands_low, entered}

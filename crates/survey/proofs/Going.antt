@@ -10,7 +10,7 @@ use Rattle.text.specs.Class.{skip}
 use Rattle.text.specs.laws.Peek.{skip_ge, found_in}
 use Rattle.text.specs.laws.Readers.{next_inv, next_was}
 use Rattle.grammar.specs.Document.{in_front, after, items, many}
-use Rattle.grammar.specs.laws.Firm.{after_closed, after_comma, items_turn, many_empty, many_items}
+use Rattle.grammar.proofs.laws.Firm.{after_closed, after_comma, items_turn, many_empty, many_items}
 use Rattle.survey.specs.laws.Bare.{Bare}
 
 -- a is the byte at p, k is past the whitespace after it, and b the byte there

@@ -15,9 +15,9 @@ use Rattle.text.specs.laws.Peek.{skip_ge}
 use Rattle.text.specs.laws.Readers.{pick_true, past_strict}
 use Rattle.grammar.specs.Tree.{arr, obj, Members, Trees, trees}
 use Rattle.grammar.specs.Document.{name}
-use Rattle.grammar.specs.laws.Forward.{name_past}
+use Rattle.grammar.proofs.laws.Forward.{name_past}
 use Rattle.values.specs.laws.Outs.{scan_done}
-use Rattle.manifest.specs.laws.Judge.{tag}
+use Rattle.manifest.proofs.laws.Judge.{tag}
 use Rattle.table.specs.Table.{wanted_of, value_kind}
 use Rattle.survey.specs.laws.Walked.{Spot, Fits, Entered, slot, Row, Listed, Holds, Puts, Noted}
 use Rattle.survey.proofs.Stepping.{column_small}

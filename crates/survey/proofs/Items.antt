@@ -16,7 +16,7 @@ use Rattle.values.specs.Stands.{Stands}
 use Rattle.table.specs.Table.{line_at, wanted_of}
 use Rattle.table.specs.laws.Some.{some}
 use Rattle.index.specs.Index.{column, items_of, rows, item_row}
-use Rattle.index.specs.laws.Put.{Put, put_one, put_more, put_same}
+use Rattle.index.proofs.laws.Put.{Put, put_one, put_more, put_same}
 use Rattle.survey.specs.laws.Bare.{Bare}
 use Rattle.survey.specs.laws.Walked.{Spot, Fine, slot, Row, Inner, gone, stood, RowAt, Machines, Holds}
 use Rattle.survey.proofs.Objects.{scalar_fine, scalars_but, unseen, stands_same, its_members, row_value, row_stands, row_column, row_fine}

@@ -17,16 +17,16 @@ use Rattle.places.specs.Places.{members_at, places_of}
 use Rattle.manifest.specs.Names.{bytes}
 use Rattle.manifest.specs.Rows.{any}
 use Rattle.manifest.specs.Statements.{All, all_none, all_one}
-use Rattle.manifest.specs.laws.Judge.{tag}
+use Rattle.manifest.proofs.laws.Judge.{tag}
 use Rattle.outline.specs.Outline.{not_1_at, version_places, versions_by, versions_at}
 use Rattle.members.specs.Members.{member_refusal_in, member_refusal_at}
 use Rattle.table.specs.Table.{line_at, wanted_of, value_kind}
 use Rattle.table.specs.laws.Some.{some}
 use Rattle.members.specs.laws.Judged.{both_flaws}
 use Rattle.index.specs.Index.{column, items_of, rows, head_row, block, index_of, many_items, too_many}
-use Rattle.index.specs.laws.Back.{index_long, block_length}
-use Rattle.index.specs.laws.Put.{Put, put_none, put_before, put_same, put_all}
-use Rattle.index.specs.laws.Rows.{rows_length}
+use Rattle.index.proofs.laws.Back.{index_long, block_length}
+use Rattle.index.proofs.laws.Put.{Put, put_none, put_before, put_same, put_all}
+use Rattle.index.proofs.laws.Rows.{rows_length}
 use Rattle.fills.specs.laws.Blank.{Blank, blank_zeros, blank_on, put_rest}
 use Rattle.survey.specs.laws.Walked.{Fine, Fits, Entered, slot, Noted, Row, Inner, Kept, RowAt, Files, FilesAt, Manifest, Holds, ManifestPuts, ManifestHolds}
 use Rattle.survey.proofs.Stepping.{stands_low}

@@ -13,15 +13,15 @@ use Rattle.text.specs.Class.{skip}
 use Rattle.text.specs.laws.Readers.{next_inv, next_was, pick_true, pick_false, done_of, done_at}
 use Rattle.grammar.specs.Tree.{Tree, obj, Members, members, same, get}
 use Rattle.grammar.specs.Document.{object_tree, value, name, member}
-use Rattle.grammar.specs.laws.Firm.{either_object, member_read}
+use Rattle.grammar.proofs.laws.Firm.{either_object, member_read}
 use Rattle.values.specs.Stands.{Stands}
 use Rattle.places.specs.Places.{inner, named_place, value_place, member_place, listed, members_at, places_of, counted}
 use Rattle.places.specs.Visits.{Both, both_none, both_one, Hold}
 use Rattle.places.specs.laws.Paired.{many_paired}
 use Rattle.places.specs.laws.Standing.{object_of, get_holds, first_holds}
-use Rattle.manifest.specs.laws.Judge.{tag, judged}
-use Rattle.manifest.specs.laws.Table.{Line, lines, kind_at}
-use Rattle.manifest.specs.laws.Walk.{from}
+use Rattle.manifest.proofs.laws.Judge.{tag, judged}
+use Rattle.manifest.proofs.laws.Table.{Line, lines, kind_at}
+use Rattle.manifest.proofs.laws.Walk.{from}
 use Rattle.members.specs.laws.Flaw.{sought}
 use Rattle.table.specs.Table.{line_at, wanted_of}
 use Rattle.table.specs.laws.Some.{some, some_none, some_not}
@@ -29,7 +29,7 @@ use Rattle.members.specs.laws.Walked.{twices, ills, said_in}
 use Rattle.members.specs.laws.Judged.{free_judged, scalar_judged, members_judged}
 use Rattle.members.specs.laws.Lines.{begin_twice, begin_ill}
 use Rattle.index.specs.Index.{column}
-use Rattle.index.specs.laws.Seen.{column_there}
+use Rattle.index.proofs.laws.Seen.{column_there}
 use Rattle.survey.specs.laws.Walked.{Spot, spotted, spot, placing, valued, placed, under, Fine, slot, Held, free, held, Row}
 use Rattle.survey.proofs.Stepping.{value_to, stands_low}
 

@@ -17,13 +17,13 @@ use Rattle.text.specs.Class.{skip}
 use Rattle.text.specs.Strings.{string}
 use Rattle.grammar.specs.Tree.{Tree, str}
 use Rattle.grammar.specs.Document.{text_tree, scalar, name, value}
-use Rattle.grammar.specs.laws.Names.{quote_first}
-use Rattle.grammar.specs.laws.Steps.{one_scalar}
-use Rattle.grammar.specs.laws.Levels.{more_done, levels_more}
+use Rattle.grammar.proofs.laws.Names.{quote_first}
+use Rattle.grammar.proofs.laws.Steps.{one_scalar}
+use Rattle.grammar.proofs.laws.Levels.{more_done, levels_more}
 use Rattle.values.specs.Stands.{Stands}
 use Rattle.values.specs.laws.Outs.{Gives, scan_done}
 use Rattle.places.specs.laws.Standing.{name_string}
-use Rattle.manifest.specs.laws.Judge.{tag}
+use Rattle.manifest.proofs.laws.Judge.{tag}
 use Rattle.table.specs.Table.{line_at, wanted_of, value_kind, lines_before, first_line}
 use Rattle.table.specs.laws.Looking.{LineOf}
 use Rattle.table.specs.laws.Some.{some, some_not}

@@ -14,10 +14,10 @@ use Rattle.text.specs.laws.Peek.{skip_ge}
 use Rattle.text.specs.laws.Readers.{next_was, next_inv, pick_true, pick_false, past_done, past_strict}
 use Rattle.grammar.specs.Tree.{Tree, same}
 use Rattle.grammar.specs.Document.{name, value}
-use Rattle.grammar.specs.laws.Forward.{name_past, value_forward}
-use Rattle.grammar.specs.laws.Names.{quote_first}
+use Rattle.grammar.proofs.laws.Forward.{name_past, value_forward}
+use Rattle.grammar.proofs.laws.Names.{quote_first}
 use Rattle.places.specs.laws.Standing.{name_string}
-use Rattle.manifest.specs.laws.Judge.{tag}
+use Rattle.manifest.proofs.laws.Judge.{tag}
 use Rattle.table.specs.Table.{line_at, wanted_of, value_kind}
 use Rattle.table.specs.laws.Lines.{there_about}
 use Rattle.survey.specs.laws.Walked.{Spot, spotted, spot, placing, valued, placed, under, Entered, slot, Noted, Complete, Held, free, held, Row}

@@ -1,4 +1,6 @@
 // The survey of a manifest: refusals 1 to 9, 10 where the index cannot hold it, and the index.
+#![tactic(auto)]
+
 ghost use Rattle.std.specs.Prelude.{◌≡◌, true, false, ℕ, ◌+◌, ◌<◌, ◌≤◌, length, get_or, replicate};
 ghost use Rattle.text.specs.Reading.{scan};
 ghost use Rattle.text.specs.Strings.{string as stringOf};
@@ -7,7 +9,7 @@ ghost use Rattle.grammar.specs.Document.{name as name_of, value as value_of};
 ghost use Rattle.table.specs.Table.{line_at, value_kind};
 ghost use Rattle.outline.specs.Outline.{not_1_at};
 ghost use Rattle.index.specs.Index.{index_of};
-ghost use Rattle.index.specs.laws.Put.{Put};
+ghost use Rattle.index.proofs.laws.Put.{Put};
 ghost use Rattle.survey.specs.Survey.{early_of, object_refusal, survey_of, surveyed};
 ghost use Rattle.survey.specs.laws.Bare.{Bare};
 ghost use Rattle.survey.specs.laws.Sole.{Closes};
@@ -17,7 +19,7 @@ ghost use Rattle.survey.specs.laws.Walked.{Fits, Entered, Noted, Complete, Row, 
 // 10 `trace_time`, 11 the manifest object.
 
 // A member that was walked over: the line about it, where its value stands, and where that ends; 0 if it is unclear.
-#[derive(Drop)]
+#[derive(Clone, Copy)]
 struct Step {
     line: usize,
     at: usize,

@@ -8,7 +8,7 @@ use Rattle.values.specs.declared.Integer.TheVariants.{In, Below, Above, None}
 use Rattle.values.specs.Integer.{integer_at}
 use Rattle.values.specs.Strings.{same_as}
 use Rattle.values.specs.Stands.{kind_at as kindThere}
-use Rattle.manifest.specs.laws.Table.{Line, lines}
+use Rattle.manifest.proofs.laws.Table.{Line, lines}
 
 -- past the last line
 abbrev pub no_line : Line
@@ -30,7 +30,7 @@ lines_before k (l ∷ ls) = pick (ltb l.place k) (suc (lines_before k ls)) (line
 unfoldable pub first_line : ℕ → ℕ
 first_line k = lines_before k lines
 
--- j is the line about objects of kind o whose name is the string at p, or 20 if there is none. No other line is, so there is one such j (`line-one`)
+-- j is the line about objects of kind o whose name is the string at p, or 20 if there is none. No other line is, so there is one such j (`line_one`)
 pub record LineAt (o : ℕ) (s : Text) (p j : ℕ) : Type 0 where
   pub few : j ≤ 20
   pub about : j < 20 → ((line_at j).place ≡ o) × (same_as s p (line_at j).name ≡ true)

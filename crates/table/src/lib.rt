@@ -1,4 +1,6 @@
 // The table of known members as code holds it: a line for each, with its name, the kind of its value and whether refusal 9 asks for it; and the JSON type of a value.
+#![tactic(auto)]
+
 ghost use Rattle.std.specs.Prelude.{◌≡◌, ◌+◌, ◌<◌, eqb};
 ghost use Rattle.text.specs.Reading.{pick, peek};
 ghost use Rattle.manifest.specs.Names.{bytes};
@@ -76,7 +78,7 @@ pub fn first(kind: u8) -> usize
 }
 
 // What a string begins with, if that is one of ASCII, and where it goes on.
-#[derive(Drop)]
+#[derive(Clone, Copy)]
 struct Opening {
     letter: u32,
     next: usize,

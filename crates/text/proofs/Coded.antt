@@ -74,9 +74,9 @@ written_scan (done a j) s i = refl
 written_scan (bad j) s i = refl
 written_scan (deep j) s i = refl
 
-pub number_tree : (s : Text) (i : ℕ) {m : ℕ} {r : Scan} → m ≡ minus s i → r ≡ scan (next (int s m) (rest s)) → r ≡ scan (number s i)
+pub as_number : (s : Text) (i : ℕ) {m : ℕ} {r : Scan} → m ≡ minus s i → r ≡ scan (next (int s m) (rest s)) → r ≡ scan (number s i)
 unfolding number
-number_tree s i e h = h ∙ ap (λ (k : ℕ). scan (next (int s k) (rest s))) e ∙ written_scan _ s i
+as_number s i e h = h ∙ ap (λ (k : ℕ). scan (next (int s k) (rest s))) e ∙ written_scan _ s i
 
 -- the bytes of w from its place k on
 module _ (w s : Text) where

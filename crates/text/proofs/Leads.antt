@@ -1,15 +1,14 @@
 -- The first byte of a character, told by comparing: the classes 19, 20 and 21 are ranges, and a byte in none of them that is no backslash and not plain begins no character. Assumes nothing.
-use mathlib.Core.Bool.{Bool, true, false, ◌||◌, and-false}
+use mathlib.Core.Bool.{Bool, true, false, and-false}
 use mathlib.Core.Path.{◌≡◌, refl, sym, ap, ◌∙◌}
 use Prim.Native.Nat.{ℕ, ◌≤◌, ◌<◌}
 use native.Mathlib.Omega.{arith}
-use lib.Dec.{leb, ltb, eqb, T}
+use lib.Dec.{leb, eqb, T}
 use lib.ListN.{length, get_or}
 use borrow.Author.Tests.{le-leb, lt-leb, eqb-true}
 use Rattle.text.specs.Reading.{Text, pick, peek}
 use Rattle.text.specs.Class.{class_of}
 use Rattle.text.specs.Strings.{classed, character, code_of}
-use Rattle.text.specs.declared.Code.{Code}
 use Rattle.text.specs.declared.Code.TheVariants.{No}
 use Rattle.text.specs.laws.Bytes.{agree, from, class_from}
 use Rattle.text.specs.laws.Peek.{peek_at}

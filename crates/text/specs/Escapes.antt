@@ -1,5 +1,5 @@
 -- Characters by how they are written, each as one number: an escape of two bytes, any other escape, a character of several bytes. What each tells is what reading the
--- character there gives (theorems `short-is`, `long-is`, `several-is`, `none_is`). Assumes nothing.
+-- character there gives (theorems `short_is`, `long_is`, `several_is`, `none_is`). Assumes nothing.
 use Rattle.std.specs.Prelude.{ℕ, ◌+◌, ◌*◌, ◌-◌, eqb, ltb}
 use Rattle.text.specs.Reading.{Text, Out, done, bad, deep, pick, peek}
 use Rattle.text.specs.Strings.{escape_of, character}

@@ -1,4 +1,6 @@
 // The bytes of a JSON text: classes, strings, numbers, literals, whitespace.
+#![tactic(auto)]
+
 ghost use Rattle.std.specs.Prelude.{◌≡◌, suc, ◌+◌, ◌*◌, ◌/◌, ◌≤◌, ◌<◌, ◌^◌, true, false, ◌&&◌, ◌||◌, eqb, length};
 ghost use Rattle.std.specs.Int.Count.{count_trailing_zeros};
 ghost use Rattle.text.specs.Reading.{pick, peek, run, word, scan};
@@ -13,7 +15,7 @@ ghost use Rattle.text.specs.laws.Escapes.{digits_at};
 ghost use Rattle.text.specs.laws.Raw.{Wide};
 
 // Where a reading ends; or the first position after which no well-formed text is possible; or the byte that opens one level too many.
-#[derive(Drop)]
+#[derive(Clone, Copy)]
 pub enum Scan {
     Done(usize),
     Bad(usize),
@@ -21,7 +23,7 @@ pub enum Scan {
 }
 
 // A code point with the position past it; or the first position after which no character is possible.
-#[derive(Drop)]
+#[derive(Clone, Copy)]
 pub enum Code {
     Of(u32, usize),
     No(usize),

@@ -1,5 +1,5 @@
 -- Where a text stands in the input. Assumes nothing.
-use Rattle.std.specs.Prelude.{ℕ, ◌≤◌, ◌<◌, ◌≡◌}
+use Rattle.std.specs.Prelude.{ℕ, ◌≤◌, ◌<◌}
 use Rattle.texts.specs.declared.Frame.{Frame}
 use Rattle.texts.specs.declared.Frame.TheVariants.{Text, Cut}
 

@@ -1,10 +1,15 @@
 // What `grammar::document` says of each text on standard input, a line each. A text stands as its length, 4 bytes with the least significant
 // first, and then its bytes.
-ghost use Rattle.std.specs.Prelude.{◌+◌, ◌≤◌, length};
+#![tactic(auto)]
+
+ghost use Rattle.std.specs.Prelude.{◌+◌, ◌≤◌, length, IfOk};
 ghost use Rattle.texts.specs.Frames.{Inside};
 
+use std::io;
+use std::io::Read;
+
 // Where a text lies in the input; or that the input ends before the text does.
-#[derive(Drop)]
+#[derive(Clone, Copy)]
 pub enum Frame {
     Text(usize, usize),
     Cut,
@@ -34,47 +39,61 @@ fn frame_at(s: &[u8], at: usize) -> Frame
     Frame::Text(from, from + n)
 }
 
-fn number(n: usize) {
-    io::print_decimal(1, n as u64);
-    io::write_all(1, b"\n");
+fn number(rt: &impl Print, n: usize) -> io::Result<()> {
+    println!(rt; "{n}")
 }
 
 // One line for an answer.
-fn tell(r: text::Scan) {
+fn tell(rt: &impl Print, r: text::Scan) -> io::Result<()> {
     match r {
         text::Scan::Done(n) => {
-            io::write_all(1, b"done ");
-            number(n);
+            rt.write_all(b"done ")?;
+            number(rt, n)
         }
         text::Scan::Bad(p) => {
-            io::write_all(1, b"bad ");
-            number(p);
+            rt.write_all(b"bad ")?;
+            number(rt, p)
         }
         text::Scan::Deep(p) => {
-            io::write_all(1, b"deep ");
-            number(p);
+            rt.write_all(b"deep ")?;
+            number(rt, p)
         }
     }
 }
 
-fn each(s: &[u8]) {
+fn each(rt: &impl Print, s: &[u8]) -> io::Result<()> {
     let mut at: usize = 0;
     while at < s.len() {
         match frame_at(s, at) {
             Frame::Text(from, to) => {
-                tell(grammar::document(&s[from..to]));
+                tell(rt, grammar::document(&s[from..to]))?;
                 at = to;
             }
             Frame::Cut => {
-                io::write_all(1, b"cut off\n");
-                return;
+                return rt.write_all(b"cut off\n");
             }
         }
     }
+    Ok(())
 }
 
-fn main() {
-    let mut space = io::large_buffer();
-    let n = io::read_full(0, &mut space);
-    each(&space[..n]);
+// Reads until a buffer is full or the input ends; how many bytes the buffer has then.
+fn read_full(input: &mut impl Read, buf: &mut [u8]) -> io::Result<usize>
+    ensures { IfOk result (λ n. n ≤ length buf.new) }
+{
+    let mut done: usize = 0;
+    while done < buf.len() {
+        let n = input.read(&mut buf[done..])?;
+        if n == 0 {
+            break;
+        }
+        done += n;
+    }
+    Ok(done)
+}
+
+fn main(rt: HostRuntime) -> io::Result<()> {
+    let mut space = [0u8; 65536];
+    let n = read_full(&mut rt.reader(), &mut space)?;
+    each(&rt, &space[..n])
 }

@@ -1,4 +1,6 @@
 // Trace time, and which files are pinned, over the table of what is known of files and sources.
+#![tactic(auto)]
+
 ghost use Rattle.std.specs.Prelude.{◌≡◌, ◌<◌};
 ghost use Rattle.merged.specs.Refusals.{is_pinned};
 ghost use Rattle.merged.specs.Timeline.{bits_of, claims as claims_of, domain_clock, claimed as claimed_of, trace_by};

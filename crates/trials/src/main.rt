@@ -1,18 +1,26 @@
 // Runs the examples of document 01 that are not proved, and its refusal 38, through the library: the programs lend memory that is long enough, so
 // none of them shows 38. For each a name is written, and then the answer's lines.
+#![tactic(auto)]
+
 ghost use Rattle.std.specs.Prelude.{◌≤◌};
 
-use libc::STDOUT_FILENO;
+use std::io;
 
 // Writes the lines of an answer. The memory fits every answer (docs/MEMORY.md).
-fn write_lines<'a>(answer: merged::Answer, times: &'a [i64], kinds: &'a [u8], steps: &'a [u16]) {
+fn write_lines(
+    rt: &impl Print,
+    answer: merged::Answer,
+    times: &[i64],
+    kinds: &[u8],
+    steps: &[u16],
+) -> io::Result<()> {
     let mut out = [0u8; 671136];
     let n = written::lines(answer, times, kinds, steps, &mut out);
-    io::write_all(STDOUT_FILENO, &out[..n]);
+    rt.write_all(&out[..n])
 }
 
 // Merges with memory that fits every input (docs/MEMORY.md), and writes.
-fn show<'a>(manifest: &'a [u8], sheet: &'a [u8]) {
+fn show(rt: &impl Print, manifest: &[u8], sheet: &[u8]) -> io::Result<()> {
     let mut machines = [0u8; 32];
     let mut times = [0i64; 6990];
     let mut kinds = [0u8; 6990];
@@ -31,87 +39,98 @@ fn show<'a>(manifest: &'a [u8], sheet: &'a [u8]) {
         &mut readings,
         &mut clocks,
     );
-    write_lines(answer, &times, &kinds, &steps);
+    write_lines(rt, answer, &times, &kinds, &steps)
 }
 
 // A trial: its name, and then what a manifest and a sheet give.
-fn named<'a>(name: &'a [u8], manifest: &'a [u8], sheet: &'a [u8]) {
-    io::write_all(STDOUT_FILENO, name);
-    show(manifest, sheet);
+fn named(rt: &impl Print, name: &[u8], manifest: &[u8], sheet: &[u8]) -> io::Result<()> {
+    rt.write_all(name)?;
+    show(rt, manifest, sheet)
 }
 
 // A sheet without records.
-fn bare<'a>(name: &'a [u8], manifest: &'a [u8]) {
-    named(name, manifest, b"\x00");
+fn bare(rt: &impl Print, name: &[u8], manifest: &[u8]) -> io::Result<()> {
+    named(rt, name, manifest, b"\x00")
 }
 
-fn starts() {
+fn starts(rt: &impl Print) -> io::Result<()> {
     bare(
+        rt,
         b"a blank after the brace\n",
         b"{ \"perfetto_manifest\": {\"version\": 1}}",
-    );
+    )
 }
 
-fn levels() {
+fn levels(rt: &impl Print) -> io::Result<()> {
     bare(
+        rt,
         b"sixteen levels\n",
         b"{\"perfetto_manifest\": {\"version\": 1, \"x\": [[[[[[[[[[[[[[]]]]]]]]]]]]]]}}",
-    );
+    )?;
     bare(
+        rt,
         b"seventeen levels\n",
         b"{\"perfetto_manifest\": {\"version\": 1, \"x\": [[[[[[[[[[[[[[[]]]]]]]]]]]]]]]}}",
-    );
+    )
 }
 
-fn ids() {
+fn ids(rt: &impl Print) -> io::Result<()> {
     bare(
+        rt,
         b"id 4294967295\n",
         b"{\"perfetto_manifest\": {\"version\": 1, \"files\": [{\"path\": \"a\", \"machines\": [{\"id\": 4294967295, \"name\": \"m\"}]}]}}",
-    );
+    )?;
     bare(
+        rt,
         b"id 4294967296\n",
         b"{\"perfetto_manifest\": {\"version\": 1, \"files\": [{\"path\": \"a\", \"machines\": [{\"id\": 4294967296, \"name\": \"m\"}]}]}}",
-    );
+    )
 }
 
-fn offsets() {
+fn offsets(rt: &impl Print) -> io::Result<()> {
     bare(
+        rt,
         b"offset -9223372036854775807\n",
         b"{\"perfetto_manifest\": {\"version\": 1, \"files\": [{\"path\": \"a\", \"clocks\": {\"sync_to\": {\"file\": \"a\", \"clock\": \"BOOTTIME\"}, \"offset_ns\": -9223372036854775807}}]}}",
-    );
+    )?;
     bare(
+        rt,
         b"offset -9223372036854775808\n",
         b"{\"perfetto_manifest\": {\"version\": 1, \"files\": [{\"path\": \"a\", \"clocks\": {\"sync_to\": {\"file\": \"a\", \"clock\": \"BOOTTIME\"}, \"offset_ns\": -9223372036854775808}}]}}",
-    );
+    )
 }
 
 // "For no manifest and `2C 02 C2 80 00 00 00 01 01 80 00 00 00 00 00 00 01 40` it writes exactly two lines"
-fn sheets() {
+fn sheets(rt: &impl Print) -> io::Result<()> {
     named(
+        rt,
         b"eighteen bytes\n",
         b"",
         b"\x2c\x02\xc2\x80\x00\x00\x00\x01\x01\x80\x00\x00\x00\x00\x00\x00\x01\x40",
-    );
+    )
 }
 
 // Document 000's example, with three lines of the log.
-fn log<'a>(name: &'a [u8], manifest: &'a [u8]) {
+fn log(rt: &impl Print, name: &[u8], manifest: &[u8]) -> io::Result<()> {
     named(
+        rt,
         name,
         manifest,
         b"\x20\x1a\xe0\xd0\xde\xdc\xca\x5c\xe0\xcc\xe8\xe4\xc2\xc6\xca\x40\x35\xdd\x85\xd1\x8d\xa0\xb9\xc1\x99\xd1\xc9\x85\x8d\x94\x80\x63\x0b\x83\x82\xfb\x63\x7b\x39\x73\x53\x9b\x7b\x72\x00\x00\x00\x00\x02\x08\x00\x00\x00\x02\x10\x00\x00\x00\x04\x10\x00\x00\x00\x00\x00\x00\x00\x07\x82\x00\x00\x00\x00\x00\x00\x00\x01\x10\x40\x00\x00\x00\x00\x00\x00\x00\x24\x00",
-    );
+    )
 }
 
-fn logs() {
+fn logs(rt: &impl Print) -> io::Result<()> {
     log(
+        rt,
         b"the log\n",
         b"{\"perfetto_manifest\": {\"version\": 1, \"trace_time\": {\"clock\": \"BOOTTIME\"}, \"files\": [{\"path\": \"phone.pftrace\", \"machine\": {\"name\": \"phone\"}}, {\"path\": \"watch.pftrace\", \"machine\": {\"name\": \"watch\"}}, {\"path\": \"app_log.json\", \"clocks\": {\"sync_to\": {\"file\": \"phone.pftrace\", \"clock\": \"BOOTTIME\"}, \"offset_ns\": 250000000}}]}}",
-    );
+    )?;
     log(
+        rt,
         b"the log, with a file in trace_time\n",
         b"{\"perfetto_manifest\": {\"version\": 1, \"trace_time\": {\"clock\": \"BOOTTIME\", \"file\": \"phone.pftrace\"}, \"files\": [{\"path\": \"phone.pftrace\", \"machine\": {\"name\": \"phone\"}}, {\"path\": \"watch.pftrace\", \"machine\": {\"name\": \"watch\"}}, {\"path\": \"app_log.json\", \"clocks\": {\"sync_to\": {\"file\": \"phone.pftrace\", \"clock\": \"BOOTTIME\"}, \"offset_ns\": 250000000}}]}}",
-    );
+    )
 }
 
 // Whether all is zeros.
@@ -148,11 +167,11 @@ fn zero_times(xs: &[i64]) -> bool {
     true
 }
 
-fn word(zero: bool) {
+fn word(rt: &impl Print, zero: bool) -> io::Result<()> {
     if zero {
-        io::write_all(STDOUT_FILENO, b"zeros\n");
+        rt.write_all(b"zeros\n")
     } else {
-        io::write_all(STDOUT_FILENO, b"not zeros\n");
+        rt.write_all(b"not zeros\n")
     }
 }
 
@@ -162,26 +181,28 @@ fn both(a: bool, b: bool) -> bool {
 }
 
 // Writes an answer's lines, and whether the outputs are all zeros.
-fn tell_outputs<'a>(
+fn tell_outputs(
+    rt: &impl Print,
     answer: merged::Answer,
-    machines: &'a [u8],
-    times: &'a [i64],
-    kinds: &'a [u8],
-    steps: &'a [u16],
-) {
-    write_lines(answer, times, kinds, steps);
+    machines: &[u8],
+    times: &[i64],
+    kinds: &[u8],
+    steps: &[u16],
+) -> io::Result<()> {
+    write_lines(rt, answer, times, kinds, steps)?;
     let first = both(zero_bytes(machines), zero_times(times));
-    word(both(first, both(zero_bytes(kinds), zero_words(steps))));
+    word(rt, both(first, both(zero_bytes(kinds), zero_words(steps))))
 }
 
 // Writes whether the work memories are all zeros.
-fn tell_work(matrix: &[u8], readings: &[i64], clocks: &[u16]) {
+fn tell_work(rt: &impl Print, matrix: &[u8], readings: &[i64], clocks: &[u16]) -> io::Result<()> {
     let last = both(zero_times(readings), zero_words(clocks));
-    word(both(zero_bytes(matrix), last));
+    word(rt, both(zero_bytes(matrix), last))
 }
 
 // Merges the log's example with the memories that are lent here; then one line for the outputs and one for the work memories.
 fn tried(
+    rt: &impl Print,
     machines: &mut [u8],
     times: &mut [i64],
     kinds: &mut [u8],
@@ -189,7 +210,7 @@ fn tried(
     matrix: &mut [u8],
     readings: &mut [i64],
     clocks: &mut [u16],
-) {
+) -> io::Result<()> {
     let answer = merge::merge(
         b"{\"perfetto_manifest\": {\"version\": 1, \"trace_time\": {\"clock\": \"BOOTTIME\", \"file\": \"phone.pftrace\"}, \"files\": [{\"path\": \"phone.pftrace\", \"machine\": {\"name\": \"phone\"}}, {\"path\": \"watch.pftrace\", \"machine\": {\"name\": \"watch\"}}, {\"path\": \"app_log.json\", \"clocks\": {\"sync_to\": {\"file\": \"phone.pftrace\", \"clock\": \"BOOTTIME\"}, \"offset_ns\": 250000000}}]}}",
         b"\x20\x1a\xe0\xd0\xde\xdc\xca\x5c\xe0\xcc\xe8\xe4\xc2\xc6\xca\x40\x35\xdd\x85\xd1\x8d\xa0\xb9\xc1\x99\xd1\xc9\x85\x8d\x94\x80\x63\x0b\x83\x82\xfb\x63\x7b\x39\x73\x53\x9b\x7b\x72\x00\x00\x00\x00\x02\x08\x00\x00\x00\x02\x10\x00\x00\x00\x04\x10\x00\x00\x00\x00\x00\x00\x00\x07\x82\x00\x00\x00\x00\x00\x00\x00\x01\x10\x40\x00\x00\x00\x00\x00\x00\x00\x24\x00",
@@ -201,8 +222,8 @@ fn tried(
         readings,
         clocks,
     );
-    tell_outputs(answer, machines, times, kinds, steps);
-    tell_work(matrix, readings, clocks);
+    tell_outputs(rt, answer, machines, times, kinds, steps)?;
+    tell_work(rt, matrix, readings, clocks)
 }
 
 // n, or one less where this is the memory to be too short.
@@ -213,7 +234,7 @@ fn lent(n: usize, this: u8, short: u8) -> usize
 }
 
 // Lends memories that are just long enough, for three sources and three events, and hold no zero: number `short` is one too short.
-fn short_of(short: u8) {
+fn short_of(rt: &impl Print, short: u8) -> io::Result<()> {
     let mut machines = [1u8; 3];
     let mut times = [1i64; 3];
     let mut kinds = [1u8; 3];
@@ -229,6 +250,7 @@ fn short_of(short: u8) {
     let f = lent(3, 6, short);
     let g = lent(3, 7, short);
     tried(
+        rt,
         &mut machines[..a],
         &mut times[..b],
         &mut kinds[..c],
@@ -236,36 +258,36 @@ fn short_of(short: u8) {
         &mut matrix[..e],
         &mut readings[..f],
         &mut clocks[..g],
-    );
+    )
 }
 
 // A trial of memories: its name, and then what is given where memory `short` is too short.
-fn memories(name: &[u8], short: u8) {
-    io::write_all(STDOUT_FILENO, name);
-    short_of(short);
+fn memories(rt: &impl Print, name: &[u8], short: u8) -> io::Result<()> {
+    rt.write_all(name)?;
+    short_of(rt, short)
 }
 
-fn too_short() {
-    memories(b"all long enough\n", 0);
-    memories(b"machines too short\n", 1);
-    memories(b"times too short\n", 2);
-    memories(b"kinds too short\n", 3);
+fn too_short(rt: &impl Print) -> io::Result<()> {
+    memories(rt, b"all long enough\n", 0)?;
+    memories(rt, b"machines too short\n", 1)?;
+    memories(rt, b"times too short\n", 2)?;
+    memories(rt, b"kinds too short\n", 3)
 }
 
-fn too_short_too() {
-    memories(b"steps too short\n", 4);
-    memories(b"matrix too short\n", 5);
-    memories(b"readings too short\n", 6);
-    memories(b"clocks too short\n", 7);
+fn too_short_too(rt: &impl Print) -> io::Result<()> {
+    memories(rt, b"steps too short\n", 4)?;
+    memories(rt, b"matrix too short\n", 5)?;
+    memories(rt, b"readings too short\n", 6)?;
+    memories(rt, b"clocks too short\n", 7)
 }
 
-fn main() {
-    starts();
-    levels();
-    ids();
-    offsets();
-    sheets();
-    logs();
-    too_short();
-    too_short_too();
+fn main(rt: HostRuntime) -> io::Result<()> {
+    starts(&rt)?;
+    levels(&rt)?;
+    ids(&rt)?;
+    offsets(&rt)?;
+    sheets(&rt)?;
+    logs(&rt)?;
+    too_short(&rt)?;
+    too_short_too(&rt)
 }

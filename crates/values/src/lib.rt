@@ -1,4 +1,6 @@
 // Questions about the value at a position of a JSON text: its kind, its text, its integer. Each is answered on every text, at every position.
+#![tactic(auto)]
+
 ghost use Rattle.std.specs.Prelude.{◌≡◌, ◌+◌, ◌*◌, ◌-◌, ◌<◌, ◌≤◌, ◌^◌, min, true, false, ◌&&◌, ◌||◌, eqb, length, pos, neg_ℤ};
 ghost use Rattle.text.specs.Reading.{pick, peek, part};
 ghost use Rattle.text.specs.Class.{digit};
@@ -15,7 +17,7 @@ ghost use Rattle.values.specs.laws.Alike.{twice, Alike};
 ghost use Rattle.values.specs.laws.Raws.{Equal, Raws, Passed};
 
 // What kind of value begins at a position.
-#[derive(Drop)]
+#[derive(Clone, Copy)]
 pub enum Kind {
     Nothing,
     Null,
@@ -27,7 +29,7 @@ pub enum Kind {
 }
 
 // An integer as far as 64 bits hold it; None where no integer stands.
-#[derive(Drop)]
+#[derive(Clone, Copy)]
 pub enum Integer {
     In(i64),
     Below,

@@ -3,10 +3,10 @@ use Rattle.std.proofs.Common.{◌≡◌, ℕ, ◌+◌, ◌^◌, ◌<◌, ◌≤�
 use lib.IntN.{sub_ℕ}
 use Rattle.whole.specs.declared.Sum.TheVariants.{In, Out}
 use Rattle.whole.specs.Whole.{excess, of_excess, reading, shifted_of}
-use Rattle.whole.specs.laws.Ints.{sub_eq, sub_pos, sub_neg, sub_add, sub_negate}
-use Rattle.whole.specs.laws.Range.{reading_out}
-use Rattle.whole.specs.laws.Keys.{excess_is, of_excess_is, of_excess_fits}
-use Rattle.whole.specs.laws.Sums.{shifted_is, shifted_in}
+use Rattle.whole.proofs.laws.Ints.{sub_eq, sub_pos, sub_neg, sub_add, sub_negate}
+use Rattle.whole.proofs.laws.Range.{reading_out}
+use Rattle.whole.proofs.laws.Keys.{excess_is, of_excess_is, of_excess_fits}
+use Rattle.whole.proofs.laws.Sums.{shifted_is, shifted_in}
 
 -- t + y - x as one difference
 pub shift_is : (a b c h : ℕ) (t x y : ℤ) → t ≡ sub_ℕ a h → x ≡ sub_ℕ b h → y ≡ sub_ℕ c h → t +ℤ y -ℤ x ≡ sub_ℕ (a + c) (b + h)

@@ -4,7 +4,7 @@ use lib.ListN.{get_elem?}
 use Rattle.whole.specs.declared.Sum.TheVariants.{Out}
 use Rattle.whole.specs.Whole.{shifted_of}
 use Rattle.whole.specs.Pairs.{xs_of, pairs, place_for, carried_by, converted, nth}
-use Rattle.whole.specs.laws.Lists.{xs_of_pairs, pairs_at, pair_past}
+use Rattle.whole.proofs.laws.Lists.{xs_of_pairs, pairs_at, pair_past}
 
 module _ (t : ℤ) (xs ys : List ℤ) (n k : ℕ) (en : n ≡ length (pairs xs ys)) (ek : k ≡ place_for t (take (n - 0) xs)) where
   place : place_for t (xs_of (pairs xs ys)) ≡ k

@@ -2,3 +2,6 @@
 pub mod Patterns
 pub mod Exact
 pub mod Found
+pub mod laws
+pub mod Examples
+pub mod Theorems

@@ -4,8 +4,8 @@ use Rattle.std.proofs.Common.{◌≡◌, ℕ, suc, ◌+◌, ◌-◌, ◌^◌, �
 use lib.Signed.{mag, lt_z}
 use mir.Facts.{to_z_pos}
 use Rattle.whole.specs.Whole.{excess, of_excess}
-use Rattle.whole.specs.laws.Ints.{sub_pos, sub_neg}
-use Rattle.whole.specs.laws.Keys.{of_excess_is}
+use Rattle.whole.proofs.laws.Ints.{sub_pos, sub_neg}
+use Rattle.whole.proofs.laws.Keys.{of_excess_is}
 
 -- !x of a negative x is -(x + 1)
 pub flip_neg : (x : ℤ) → SFits w64 x → lt_z x (pos 0) ≡ true → to_z w64 (18446744073709551615 - of_z w64 x) ≡ pos (mag x)

@@ -1,5 +1,7 @@
 // Readings and offsets, 64-bit two's complement, as whole numbers: their patterns, their keys, the exact sum t + y - x, and the
 // conversion of a reading along a list of correspondences.
+#![tactic(auto)]
+
 ghost use Rattle.std.specs.Prelude.{◌≡◌, length};
 ghost use Rattle.std.specs.Int.{w64};
 ghost use Rattle.std.proofs.Common.{of_z, to_z};
@@ -43,7 +45,7 @@ pub fn of_key(k: u64) -> i64
 }
 
 // A whole number that 64 bits hold, or that they do not.
-#[derive(Drop)]
+#[derive(Clone, Copy)]
 pub enum Sum {
     In(i64),
     Out,

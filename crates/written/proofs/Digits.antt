@@ -5,7 +5,7 @@ use Prim.Native.Nat.{ℕ, ◌+◌, ◌/◌, ◌%◌, ◌^◌, ◌≤◌, ◌<◌
 use native.Mathlib.Omega.{arith}
 use lib.ListN.{length, set, length-append}
 use Rattle.written.specs.Written.{decimal}
-use Rattle.written.specs.laws.Decimal.{decimal_one, decimal_more}
+use Rattle.written.proofs.laws.Decimal.{decimal_one, decimal_more}
 use Rattle.written.specs.laws.Put.{Put, put_one, put_more, put_same, put_length}
 
 pub one_long : (n : ℕ) → n < 10 → length (decimal n) ≡ 1

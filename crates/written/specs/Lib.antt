@@ -1,5 +1,4 @@
 -- The lines that the programs write. In reading order.
+-- What is proved of it stands in proofs/: Theorems, laws, Examples.
 pub mod Written
-pub mod Examples
-pub mod Theorems
 pub mod laws

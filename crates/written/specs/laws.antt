@@ -1,6 +1,2 @@
 -- Laws of the definitions, for the proofs here and for those who build on them.
-pub mod Decimal
 pub mod Put
-pub mod Signed
-pub mod Room
-pub mod Told

@@ -1,4 +1,6 @@
 // The lines that the programs write, as bytes.
+#![tactic(auto)]
+
 ghost use Rattle.std.specs.Prelude.{◌≡◌, ◌++◌, ◌+◌, ◌-◌, ◌*◌, ◌≤◌, ◌<◌, pos, length, take, get_or};
 ghost use Rattle.manifest.specs.Names.{bytes};
 ghost use Rattle.merged.specs.Merged.{padded};

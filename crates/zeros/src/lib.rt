@@ -1,4 +1,6 @@
 // Memories set to zeros: one of a kind of number, or all that a caller lends.
+#![tactic(auto)]
+
 ghost use Rattle.std.specs.Prelude.{◌≡◌, ◌++◌, ◌-◌, min, pos, length, take, replicate};
 
 // Sets a memory of bytes to zeros.

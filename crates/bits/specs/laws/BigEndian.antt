@@ -18,8 +18,8 @@ all_bits (b ∷ s) h =
     ap (number (b ∷ s) 0) e ∙ number_append (b ∷ s) 0 8 (8 * length s) ∙ rw (first, rest)
 
 module _ (s : List ℕ) where
-  pub number_tree : Bytes s → (i w : ℕ) → i + w ≤ 8 * length s → number s i w ≡ big_endian s / 2 ^ (8 * length s - (i + w)) % 2 ^ w
-  number_tree h i w l =
+  pub as_number : Bytes s → (i w : ℕ) → i + w ≤ 8 * length s → number s i w ≡ big_endian s / 2 ^ (8 * length s - (i + w)) % 2 ^ w
+  as_number h i w l =
       let r = 8 * length s - (i + w) in
       let e : 8 * length s ≡ (i + w) + r = omega arith in
       let front : number s 0 (i + w) ≡ number s 0 i * 2 ^ w + number s i w = number_append s 0 i w ∙ ap (λ (j : ℕ). number s 0 i * 2 ^ w + number s j w) (zero-add i) in

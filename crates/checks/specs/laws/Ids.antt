@@ -12,7 +12,7 @@ use Rattle.text.specs.Reading.{pick}
 use Rattle.text.specs.laws.Readers.{pick_true, pick_false}
 use Rattle.manifest.specs.Rows.{first_or, any}
 use Rattle.index.specs.Index.{listed}
-use Rattle.index.specs.laws.Entries.{listed_length, from, from_here, from_past}
+use Rattle.index.proofs.laws.Entries.{listed_length, from, from_here, from_past}
 use Rattle.merged.specs.Machines.{without, distinct}
 
 -- ---- each number once, from front to back

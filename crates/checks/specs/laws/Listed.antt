@@ -7,7 +7,7 @@ use native.Mathlib.Omega.{arith}
 use Rattle.text.specs.laws.Readers.{pick_true, pick_false}
 use Rattle.manifest.specs.Rows.{any}
 use Rattle.index.specs.Index.{listed}
-use Rattle.index.specs.laws.Entries.{from, from_here, from_past, any_past, any_found, any_on}
+use Rattle.index.proofs.laws.Entries.{from, from_here, from_past, any_past, any_found, any_on}
 use Rattle.merged.specs.Facts.{SourceFact}
 use Rattle.merged.specs.Machines.{sources_in}
 use Rattle.checks.specs.Table.{files_in, sources_held}

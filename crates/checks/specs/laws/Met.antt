@@ -11,14 +11,14 @@ use Rattle.text.specs.Reading.{pick}
 use Rattle.text.specs.laws.Readers.{pick_true, pick_false}
 use Rattle.manifest.specs.Rows.{first_or, any}
 use Rattle.index.specs.Index.{listed}
-use Rattle.index.specs.laws.Put.{Put, put_none, put_one, put_more, put_same, put_length}
-use Rattle.index.specs.laws.Entries.{from, from_past, listed_length}
+use Rattle.index.proofs.laws.Put.{Put, put_none, put_one, put_more, put_same, put_length}
+use Rattle.index.proofs.laws.Entries.{from, from_past, listed_length}
 use Rattle.merged.specs.Facts.{SourceFact, Facts}
 use Rattle.merged.specs.Machines.{by_id, ids_by, unnamed, unnamed_machine, machine_count, machine_of, machines_of}
 use Rattle.checks.specs.Table.{source_by, sources_held, facts_by}
 use Rattle.checks.specs.Machines.{machine_table}
 use Rattle.checks.specs.laws.Ids.{added, seen, distinct_is, seen_starts, added_old, added_new, added_has, place_in, first_found, firsts, firsts_length, among, not_among, listed_end, firsts_more}
-use Rattle.checks.specs.laws.Given.{machineGiven, machine-given, machine-by-id}
+use Rattle.checks.specs.laws.Given.{machine_given, machine_given_lem, machine_by_id}
 use Rattle.checks.specs.laws.Listed.{from_start, from_next, sources_most}
 
 -- ---- one source
@@ -30,7 +30,7 @@ module _ (k : Facts) (x : SourceFact) where
 
   -- its machine, if the ids after it are these, and n stands for none of their places
   unfoldable pub machine_met : ℕ → List ℕ → ℕ
-  machine_met n l = pick (by_id k x) (1 + (k.names + place_in n x.id l)) (machineGiven x.given)
+  machine_met n l = pick (by_id k x) (1 + (k.names + place_in n x.id l)) (machine_given x.given)
 
   after_turn : (l : List ℕ) (r : List SourceFact) → seen l (ids_by k (x ∷ r)) ≡ seen (after l) (ids_by k r)
   unfolding after ids_by pick seen
@@ -45,14 +45,14 @@ module _ (k : Facts) (x : SourceFact) where
   machine_met_lem l r n e = go (by_id k x) refl e
     where
       go : (b : Bool) → by_id k x ≡ b → unnamed k ≡ seen (pick b (added l x.id) l) r
-          → machine_of k x ≡ pick b (1 + (k.names + place_in n x.id (pick b (added l x.id) l))) (machineGiven x.given)
+          → machine_of k x ≡ pick b (1 + (k.names + place_in n x.id (pick b (added l x.id) l))) (machine_given x.given)
       go true h q =
           let (m, f) = seen_starts (added l x.id) r in
           let s : 1 + k.names ≡ 1 + k.names + 0 = omega arith in
           let a : unnamed_machine k x.id ≡ 1 + k.names + first_or n (eqb x.id) (added l x.id) 0 =
           (λ i. first_or 0 (eqb x.id) ((q ∙ f) i) (s i)) ∙ first_found (eqb x.id) (added l x.id) m (1 + k.names) 0 n 0 (added_has l x.id) in
-          machine-by-id k x h ∙ (let z : unnamed_machine k x.id ≡ 1 + (k.names + first_or n (eqb x.id) (added l x.id) 0) = omega arith in z)
-      go false h q = machine-given k x h
+          machine_by_id k x h ∙ (let z : unnamed_machine k x.id ≡ 1 + (k.names + first_or n (eqb x.id) (added l x.id) 0) = omega arith in z)
+      go false h q = machine_given_lem k x h
 
 -- ---- the table of ids, when a source was met
 

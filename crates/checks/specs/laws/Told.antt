@@ -10,13 +10,13 @@ use borrow.Author.Tests.{eq-eqb, ne_eqb, le-leb, lt-leb}
 use Rattle.text.specs.Reading.{pick}
 use Rattle.text.specs.laws.Readers.{pick_true, pick_false}
 use Rattle.manifest.specs.Rows.{any}
-use Rattle.index.specs.laws.Entries.{listed_length}
+use Rattle.index.proofs.laws.Entries.{listed_length}
 use Rattle.merged.specs.Facts.{FileFact, SourceFact, Facts}
 use Rattle.merged.specs.Machines.{sources_in, is_silent, by_id}
 use Rattle.merged.specs.Refusals.{listed_by, unused, has_clocks, is_undeclared, is_whole, is_pinned, checks, first_of, refusal_32_path_not_in_sheet, refusal_33_clocks_on_a_container, refusal_34_id_not_declared, refusal_35_machine_on_several_sources, refusal_36_pinned_file_with_a_snapshot, refusal_37_too_many_machines}
 use Rattle.checks.specs.Table.{file_number, source_number, tie_of, given_of, is_set, file_by, source_by, files_in, facts_by}
 use Rattle.checks.specs.laws.Ids.{place_in}
-use Rattle.checks.specs.laws.Given.{machineGiven, silent-is, given_is, whole_is, undeclared-is, clocks-are, pinned-is}
+use Rattle.checks.specs.laws.Given.{machine_given, silent_is, given_is, whole_is, undeclared_is, clocks_are, pinned_is}
 use Rattle.checks.specs.laws.Met.{machine_met}
 
 -- the tests of 33 to 36, of one file or source
@@ -52,7 +52,7 @@ module _ (t : List ℕ) (f : ℕ) {a : ℕ} (ea : a ≡ file_number t f 3) where
     container_is : pick (eqb b 1) true (eqb b 2) ≡ clocks_on_container (file_by t f)
     unfolding file_by is_set
     container_is =
-        sym (clocks-are b) ∙ (ap (λ (m : ℕ). has_clocks (tie_of m)) eb
+        sym (clocks_are b) ∙ (ap (λ (m : ℕ). has_clocks (tie_of m)) eb
         ∙ ap (λ (q : Bool). not q && has_clocks (tie_of (file_number t f 1))) (sym (ne_eqb (file_number t f 3) 0 (λ p. n (ea ∙ p)))))
 
     pub container_tied : b ≡ 1 → true ≡ clocks_on_container (file_by t f)
@@ -64,24 +64,24 @@ module _ (t : List ℕ) (f : ℕ) {a : ℕ} (ea : a ≡ file_number t f 3) where
 module _ (t : List ℕ) (f : ℕ) {a : ℕ} (ea : a ≡ file_number t f 1) where
   pub pinned_not : (a ≡ 2 → ⊥) → false ≡ pinned_with_snapshot (file_by t f)
   unfolding file_by
-  pinned_not n = ap (λ (b : Bool). b && is_set (file_number t f 5)) (sym (pinned-is (file_number t f 1) ∙ ne_eqb (file_number t f 1) 2 (λ p. n (ea ∙ p))))
+  pinned_not n = ap (λ (b : Bool). b && is_set (file_number t f 5)) (sym (pinned_is (file_number t f 1) ∙ ne_eqb (file_number t f 1) 2 (λ p. n (ea ∙ p))))
 
   pub pinned_yes : a ≡ 2 → {b : ℕ} → b ≡ file_number t f 5 → not (eqb b 0) ≡ pinned_with_snapshot (file_by t f)
   unfolding file_by is_set
   pinned_yes q eb =
       ap (λ (m : ℕ). not (eqb m 0)) eb
-      ∙ ap (λ (b : Bool). b && is_set (file_number t f 5)) (sym (pinned-is (file_number t f 1) ∙ eq-eqb (file_number t f 1) 2 (sym ea ∙ q)))
+      ∙ ap (λ (b : Bool). b && is_set (file_number t f 5)) (sym (pinned_is (file_number t f 1) ∙ eq-eqb (file_number t f 1) 2 (sym ea ∙ q)))
 
 -- ---- of a source
 
 module _ (t : List ℕ) (j : ℕ) {a : ℕ} (ea : a ≡ source_number t j 2) where
   pub undeclared_here : a ≡ 3 → not_declared (source_by t j) ≡ true
   unfolding source_by
-  undeclared_here q = undeclared-is (source_number t j 2) (source_number t j 3) ∙ eq-eqb (source_number t j 2) 3 (sym ea ∙ q)
+  undeclared_here q = undeclared_is (source_number t j 2) (source_number t j 3) ∙ eq-eqb (source_number t j 2) 3 (sym ea ∙ q)
 
   pub undeclared_not : (a ≡ 3 → ⊥) → not_declared (source_by t j) ≡ false
   unfolding source_by
-  undeclared_not q = undeclared-is (source_number t j 2) (source_number t j 3) ∙ ne_eqb (source_number t j 2) 3 (λ p. q (ea ∙ p))
+  undeclared_not q = undeclared_is (source_number t j 2) (source_number t j 3) ∙ ne_eqb (source_number t j 2) 3 (λ p. q (ea ∙ p))
 
   pub whole_not : (a ≡ 1 → ⊥) → false ≡ whole_of_several (facts_by t).sources (source_by t j)
   unfolding source_by
@@ -98,7 +98,7 @@ module _ (t : List ℕ) (j : ℕ) {a : ℕ} (ea : a ≡ source_number t j 2) whe
 
   silent_said : pick (eqb a 1) false (pick (eqb a 2) false (not (eqb a 3))) ≡ is_silent (source_by t j).given
   unfolding source_by
-  silent_said = sym (silent-is a (source_number t j 3)) ∙ ap (λ (m : ℕ). is_silent (given_of m (source_number t j 3))) ea
+  silent_said = sym (silent_is a (source_number t j 3)) ∙ ap (λ (m : ℕ). is_silent (given_of m (source_number t j 3))) ea
 
   pub silent_1 : a ≡ 1 → false ≡ is_silent (source_by t j).given
   silent_1 q = sym (pick_true _ _ (eq-eqb a 1 q)) ∙ silent_said
@@ -110,17 +110,17 @@ module _ (t : List ℕ) (j : ℕ) {a : ℕ} (ea : a ≡ source_number t j 2) whe
   silent_else n m = sym (pick_false _ _ (ne_eqb a 1 n) ∙ pick_false _ _ (ne_eqb a 2 m)) ∙ silent_said
 
   module _ {m : ℕ} (em : m ≡ source_number t j 3) where
-    given_said : pick (eqb a 1) m (pick (eqb a 2) m 0) ≡ machineGiven (source_by t j).given
+    given_said : pick (eqb a 1) m (pick (eqb a 2) m 0) ≡ machine_given (source_by t j).given
     unfolding source_by
-    given_said = sym (given_is a m) ∙ (λ i. machineGiven (given_of (ea i) (em i)))
+    given_said = sym (given_is a m) ∙ (λ i. machine_given (given_of (ea i) (em i)))
 
-    pub given_1 : a ≡ 1 → m ≡ machineGiven (source_by t j).given
+    pub given_1 : a ≡ 1 → m ≡ machine_given (source_by t j).given
     given_1 q = sym (pick_true _ _ (eq-eqb a 1 q)) ∙ given_said
 
-    pub given_2 : (a ≡ 1 → ⊥) → a ≡ 2 → m ≡ machineGiven (source_by t j).given
+    pub given_2 : (a ≡ 1 → ⊥) → a ≡ 2 → m ≡ machine_given (source_by t j).given
     given_2 n q = sym (pick_false _ _ (ne_eqb a 1 n) ∙ pick_true _ _ (eq-eqb a 2 q)) ∙ given_said
 
-    pub given_else : (a ≡ 1 → ⊥) → (a ≡ 2 → ⊥) → 0 ≡ machineGiven (source_by t j).given
+    pub given_else : (a ≡ 1 → ⊥) → (a ≡ 2 → ⊥) → 0 ≡ machine_given (source_by t j).given
     given_else n k = sym (pick_false _ _ (ne_eqb a 1 n) ∙ pick_false _ _ (ne_eqb a 2 k)) ∙ given_said
 
 -- its machine is that of its id
@@ -142,7 +142,7 @@ module _ (t : List ℕ) (j : ℕ) {s : Bool} (es : s ≡ is_silent (source_by t 
     by_id_several h e = (λ i. sym (le-leb 2 n h) i && not (eqb (e i) 0)) ∙ by_id_is
 
 module _ (t : List ℕ) (j : ℕ) {b : Bool} (eb : b ≡ by_id (facts_by t) (source_by t j)) (n : ℕ) (l : List ℕ) where
-  pub met_given : b ≡ false → {g : ℕ} → g ≡ machineGiven (source_by t j).given → g ≡ machine_met (facts_by t) (source_by t j) n l
+  pub met_given : b ≡ false → {g : ℕ} → g ≡ machine_given (source_by t j).given → g ≡ machine_met (facts_by t) (source_by t j) n l
   unfolding machine_met
   met_given q e = e ∙ sym (pick_false _ _ (sym eb ∙ q))
 

@@ -7,7 +7,7 @@ use mathlib.Core.List.{List, [], ◌∷◌}
 use Rattle.text.specs.Reading.{pick}
 use Rattle.manifest.specs.View.{Cell, absent, wrong, many, one}
 use Rattle.manifest.specs.Rows.{the, is_absent, holds, any, flat}
-use Rattle.manifest.specs.laws.Lists.{any_append}
+use Rattle.manifest.proofs.laws.Lists.{any_append}
 use Rattle.index.specs.Index.{at}
 
 -- ---- a value that stands at p

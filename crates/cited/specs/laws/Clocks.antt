@@ -7,7 +7,7 @@ use Rattle.text.specs.Reading.{Text, Out, done, bad, deep, pick}
 use Rattle.text.specs.Strings.{string}
 use Rattle.text.specs.laws.Readers.{pick_true, pick_false}
 use Rattle.grammar.specs.Tree.{same}
-use Rattle.grammar.specs.laws.Order.{same_refl}
+use Rattle.grammar.proofs.laws.Order.{same_refl}
 use Rattle.manifest.specs.View.{Cell}
 use Rattle.manifest.specs.Rules.{Whose, host, called, Clock, private, shared, cited_or, base, clock_at, same_machine, same_clock, domain}
 use Rattle.outline.specs.Outline.{domain_at, text_in as textInOf, text_at as textAtOf}

@@ -6,11 +6,11 @@ use Rattle.std.proofs.Math.Bool.{or-true}
 use native.Mathlib.Omega.{arith}
 use Rattle.text.specs.Reading.{Text}
 use Rattle.grammar.specs.Tree.{same}
-use Rattle.grammar.specs.laws.Order.{same_refl}
+use Rattle.grammar.proofs.laws.Order.{same_refl}
 use Rattle.manifest.specs.Rows.{Item, machine_of, its_name, item_name, the, holds, any, flat, its_items, declared}
-use Rattle.manifest.specs.laws.Lists.{any_append}
+use Rattle.manifest.proofs.laws.Lists.{any_append}
 use Rattle.index.specs.Index.{col_of, item_of, items_in, text_at, text_cell, listed, item_by, entry_by, entry_at}
-use Rattle.index.specs.laws.Entries.{from, item_at, items_are, any_past, any_found, any_on}
+use Rattle.index.proofs.laws.Entries.{from, item_at, items_are, any_past, any_found, any_on}
 use Rattle.cited.specs.laws.Cells.{holds_none, holds_some, any_the, any_flat_the}
 
 -- t is the name of the `machine` of entry i

@@ -11,7 +11,7 @@ use Rattle.manifest.specs.Rows.{Entry, is_absent, holds}
 use Rattle.manifest.specs.Rules.{named_entry, no_entry}
 use Rattle.index.specs.Index.{text_at, col_of, at, text_cell, entry_at, manifest_of}
 use Rattle.index.specs.Cited.{entry_of, cites_of, trace_cited, entry_cited}
-use Rattle.index.specs.Theorems.{find_is, named_entry_is}
+use Rattle.index.proofs.Theorems.{find_is, named_entry_is}
 use Rattle.finds.specs.laws.Cites.{cited_some, cites_at, cites_right}
 use Rattle.cited.specs.laws.Cells.{holds_none, holds_some}
 

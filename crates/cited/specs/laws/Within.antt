@@ -5,7 +5,7 @@ use Rattle.text.specs.Reading.{Text}
 use Rattle.manifest.specs.Rows.{Entry, Clocks, SyncTo, clocks_of, sync_to, holds, any, its_clocks, its_syncs}
 use Rattle.manifest.specs.Rules.{Rule, applies}
 use Rattle.index.specs.Index.{col_of, entries_in, sync_by, clocks_by, entry_by, entry_at, manifest_of}
-use Rattle.index.specs.laws.Entries.{entry_cell, from_entry, applies_outside, applies_within, entry_past, entry_found, entry_on}
+use Rattle.index.proofs.laws.Entries.{entry_cell, from_entry, applies_outside, applies_within, entry_past, entry_found, entry_on}
 use Rattle.cited.specs.laws.Cells.{holds_none, holds_some, any_the, any_flat_the}
 
 -- rule r applies outside the entries; and in entry i

@@ -7,7 +7,7 @@ use Rattle.std.specs.Int.Signed.{lt_z}
 use Rattle.whole.specs.declared.Sum.{Sum}
 use Rattle.whole.specs.declared.Sum.TheVariants.{In, Out}
 use Rattle.paths.specs.Paths.{Leads, path}
-use Rattle.paths.specs.Theorems.{path_best, best_is_path, far_no_path}
+use Rattle.paths.proofs.Theorems.{path_best, best_is_path, far_no_path}
 use Rattle.graphs.specs.Graphs.{World, graph}
 use Rattle.clocks.specs.declared.Answer.TheVariants.{Placed, Dropped}
 use Rattle.clocks.specs.Answers.{carried, outside, early, ended, placed, related, answer_of}

@@ -1,5 +1,5 @@
 -- When an event is unrelated, and what a placed event's time is. Assumes nothing.
-use Rattle.std.specs.Prelude.{◌≡◌, refl, Bool, true, false, cond, List, [], ◌∷◌, ℕ, zero, suc, ◌+◌, ◌-◌, ◌≤◌, ◌<◌, length, ℤ, pos, ◌+ℤ◌, ◌-ℤ◌}
+use Rattle.std.specs.Prelude.{◌≡◌, refl, Bool, true, false, cond, List, [], ◌∷◌, ℕ, zero, suc, ◌≤◌, ◌<◌, length, ℤ, pos, ◌+ℤ◌, ◌-ℤ◌}
 use Rattle.std.proofs.Common.{sym, ap, ◌∙◌, arith, ltb-true, ltb-false}
 use Rattle.std.specs.Int.Signed.{lt_z}
 use Rattle.numbers.specs.Numbers.{clocks}
@@ -7,11 +7,11 @@ use Rattle.whole.specs.declared.Sum.{Sum}
 use Rattle.whole.specs.declared.Sum.TheVariants.{In, Out}
 use Rattle.whole.specs.Whole.{Within}
 use Rattle.whole.specs.Pairs.{Pair, xs_of, ys_of, converted, place_for, nth, Carries}
-use Rattle.whole.specs.Theorems.{place_is, convert_at, convert_none, in_sum, sum_in}
+use Rattle.whole.proofs.Theorems.{place_is, convert_at, convert_none, in_sum, sum_in}
 use Rattle.paths.specs.Paths.{Leads, IsBest, dist, trace, path}
 use Rattle.paths.specs.Matrix.{far}
-use Rattle.paths.specs.Theorems.{path_best, far_no_path, no_path_far, steps_length, steps_small}
-use Rattle.paths.specs.laws.Reach.{dist_le, dist_more, goal_at}
+use Rattle.paths.proofs.Theorems.{path_best, far_no_path, no_path_far, steps_length, steps_small}
+use Rattle.paths.proofs.laws.Reach.{dist_le, dist_more, goal_at}
 use Rattle.graphs.specs.Graphs.{World, along, graph}
 use Rattle.graphs.specs.laws.Shape.{graph_more}
 use Rattle.clocks.specs.declared.Answer.TheVariants.{Placed, Dropped}

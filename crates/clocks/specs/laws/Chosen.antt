@@ -14,10 +14,10 @@ use Rattle.whole.specs.declared.Sum.{Sum}
 use Rattle.whole.specs.declared.Sum.TheVariants.{In}
 use Rattle.whole.specs.Whole.{excess, shifted_of}
 use Rattle.whole.specs.Pairs.{Pair, xs_of, ys_of, converted, nth, Carries}
-use Rattle.whole.specs.Theorems.{convert_at}
-use Rattle.whole.specs.laws.Keys.{excess_lt}
-use Rattle.whole.specs.laws.Places.{keys_carry}
-use Rattle.whole.specs.laws.Lists.{length_xs}
+use Rattle.whole.proofs.Theorems.{convert_at}
+use Rattle.whole.proofs.laws.Keys.{excess_lt}
+use Rattle.whole.proofs.laws.Places.{keys_carry}
+use Rattle.whole.proofs.laws.Lists.{length_xs}
 use Rattle.graphs.specs.Links.{Link, links_of, list_of}
 use Rattle.graphs.specs.laws.Links.{links_most, link_at, seen, seen_forwards, seen_backwards, Sight, sight, before, before_mono, stands, found}
 use Rattle.graphs.specs.laws.Links.Sight.{forwards, backwards, unseen}

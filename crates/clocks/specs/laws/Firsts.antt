@@ -4,9 +4,9 @@ use Rattle.std.proofs.Common.{sym, ap, ◌∙◌, inl, inr, ⊎_elim, arith}
 use Rattle.std.proofs.Math.Decide.{dec_lt}
 use Rattle.std.specs.Int.Signed.{le_z}
 use Rattle.whole.specs.Pairs.{Pair, xs_of, ys_of, converted, place_for, nth, Carries}
-use Rattle.whole.specs.Theorems.{place_is, convert_at}
-use Rattle.whole.specs.laws.Order.{clash, le_refl, le_antisym}
-use Rattle.whole.specs.laws.Lists.{length_xs}
+use Rattle.whole.proofs.Theorems.{place_is, convert_at}
+use Rattle.whole.proofs.laws.Order.{clash, le_refl, le_antisym}
+use Rattle.whole.proofs.laws.Lists.{length_xs}
 
 -- place i has an x that no earlier place has
 pub record First (ps : List Pair) (i : ℕ) : Type 0 where

@@ -10,10 +10,10 @@ use native.Mathlib.Omega.{arith}
 use Rattle.std.proofs.Math.Decide.{dec_lt, ℕ_discrete}
 use Rattle.paths.specs.Paths.{Net, Leads, Smaller, IsBest}
 use Rattle.paths.specs.Paths.Smaller.{at_once, later}
-use Rattle.paths.specs.Theorems.{best_is_path, steps_length, steps_small}
+use Rattle.paths.proofs.Theorems.{best_is_path, steps_length, steps_small}
 use Rattle.paths.specs.laws.Least.{and_left, and_right, all, all_has}
-use Rattle.paths.specs.laws.Bound.{leads_near}
-use Rattle.paths.specs.laws.Reach.{leads_in}
+use Rattle.paths.proofs.laws.Bound.{leads_near}
+use Rattle.paths.proofs.laws.Reach.{leads_in}
 use Rattle.graphs.specs.Graphs.{World, graph}
 use Rattle.graphs.specs.Theorems.{contained}
 use Rattle.clocks.specs.laws.Chains.{Chosen}

@@ -1,5 +1,5 @@
 -- A reading carried along the next clocks of a graph is carried along its best path. Assumes nothing.
-use Rattle.std.specs.Prelude.{◌≡◌, Bool, true, false, ◌&&◌, List, [], ◌∷◌, ℕ, zero, suc, ◌+◌, ◌-◌, ◌<◌, length, ℤ, pos, ◌+ℤ◌}
+use Rattle.std.specs.Prelude.{◌≡◌, Bool, true, false, ◌&&◌, List, [], ◌∷◌, ℕ, zero, suc, ◌+◌, ◌<◌, length, ℤ, pos}
 use Rattle.std.proofs.Math.Path.{refl}
 use Rattle.std.proofs.Common.{sym, ap, ◌∙◌, true≢false, arith, SFits}
 use Rattle.std.proofs.Math.Option.{Option, none, some as present}
@@ -13,12 +13,12 @@ use Rattle.numbers.specs.Numbers.{clocks}
 use Rattle.whole.specs.declared.Sum.{Sum}
 use Rattle.whole.specs.declared.Sum.TheVariants.{In, Out}
 use Rattle.whole.specs.Pairs.{Pair, xs_of, converted, carried_by, place_for, place_from}
-use Rattle.whole.specs.laws.Sums.{shifted_in, in_shifted}
+use Rattle.whole.proofs.laws.Sums.{shifted_in, in_shifted}
 use Rattle.paths.specs.Paths.{dist, next, trace}
 use Rattle.paths.specs.Matrix.{far, distances, nexts}
-use Rattle.paths.specs.laws.Best.{next_is, length_trace}
-use Rattle.paths.specs.laws.Reach.{dist_in, outside}
-use Rattle.paths.specs.laws.Table.{get_d_nexts, get_d_distances}
+use Rattle.paths.proofs.laws.Best.{next_is, length_trace}
+use Rattle.paths.proofs.laws.Reach.{dist_in, outside}
+use Rattle.paths.proofs.laws.Table.{get_d_nexts, get_d_distances}
 use Rattle.graphs.specs.Links.{Link, links_of, list_of}
 use Rattle.graphs.specs.Graphs.{World, guess, or_guess, along, some, joined, graph}
 use Rattle.clocks.specs.declared.Answer.{Answer}

@@ -3,7 +3,7 @@ use Rattle.std.specs.Prelude.{◌≡◌, refl, List, [], ◌++◌, ℕ, zero, su
 use Rattle.std.proofs.Common.{sym, ap, subst, ◌∙◌, arith, length-append, length-drop, take-append-drop, drop-drop}
 use Rattle.std.proofs.lemmas.List.{length-replicate, replicate-append-replicate}
 use Rattle.index.specs.Index.{rows}
-use Rattle.index.specs.laws.Put.{Put, put_same, put_row, put_length, put_after}
+use Rattle.index.proofs.laws.Put.{Put, put_same, put_row, put_length, put_after}
 
 -- from b on all of l is 0
 pub record Blank (l : List ℕ) (b : ℕ) : Type 0 where

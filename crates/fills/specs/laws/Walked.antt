@@ -10,7 +10,7 @@ use Rattle.values.specs.Stands.{Stands}
 use Rattle.values.specs.Strings.{same_as}
 use Rattle.manifest.specs.Names.{bytes}
 use Rattle.index.specs.Index.{column, items_of, rows, item_row, block}
-use Rattle.index.specs.laws.Put.{Put}
+use Rattle.index.proofs.laws.Put.{Put}
 use Rattle.fills.specs.declared.Next.{Next}
 
 -- ---- a value

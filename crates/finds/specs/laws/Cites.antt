@@ -12,7 +12,7 @@ use Rattle.manifest.specs.Rules.{named_entry}
 use Rattle.index.specs.Index.{text_at, col_of, at, text_cell, manifest_of}
 use Rattle.prints.specs.laws.Tables.{table_at}
 use Rattle.index.specs.Cited.{entry_of, cited_by, cites_of, entry_cited}
-use Rattle.index.specs.laws.Paths.{found_at, named_right}
+use Rattle.index.proofs.laws.Paths.{found_at, named_right}
 
 module _ (s : Text) (ix : List ℕ) (i : ℕ) where
   -- p is where the `file` stands

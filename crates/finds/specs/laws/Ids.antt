@@ -16,10 +16,10 @@ use Rattle.manifest.specs.View.{Cell, as_integer}
 use Rattle.manifest.specs.Rows.{Item, id, holds, first_or, its_items}
 use Rattle.manifest.specs.Rules.{same_id, name_of_id}
 use Rattle.index.specs.Index.{whole_in, whole_at, item_of, items_in, at, text_cell, id_cell, listed, item_by, entry_at}
-use Rattle.index.specs.laws.Entries.{from, item_at, items_are}
+use Rattle.index.proofs.laws.Entries.{from, item_at, items_are}
 use Rattle.finds.specs.Finds.{item_with, name_for}
 use Rattle.finds.specs.laws.Swaps.{eqb_swap}
-use Rattle.index.specs.laws.Firsts.{first_past, first_found, first_on}
+use Rattle.index.proofs.laws.Firsts.{first_past, first_found, first_on}
 
 -- ---- when an integer is an id
 

@@ -8,12 +8,12 @@ use Rattle.text.specs.Reading.{Text, pick}
 use Rattle.text.specs.laws.Readers.{pick_true, pick_false}
 use Rattle.manifest.specs.Meaning.{names_in, number_of}
 use Rattle.index.specs.Index.{col_of, entries_in, listed, manifest_of, whose_at}
-use Rattle.index.specs.laws.Entries.{listed_length}
+use Rattle.index.proofs.laws.Entries.{listed_length}
 use Rattle.prints.specs.Prints.{print_at, path_print, path_prints}
 use Rattle.named.specs.Named.{name_table, print_table, name_print, count_in, number_at}
-use Rattle.named.specs.Theorems.{table_length, count_is, number_is}
+use Rattle.named.proofs.Theorems.{table_length, count_is, number_is}
 use Rattle.prints.specs.laws.Tables.{table_at}
-use Rattle.named.specs.laws.Meant.{get_d_behind}
+use Rattle.named.proofs.laws.Meant.{get_d_behind}
 use Rattle.index.specs.Cited.{cited_by, cites_of, trace_cited}
 use Rattle.finds.specs.Finds.{from_one, of_entries, lookups}
 

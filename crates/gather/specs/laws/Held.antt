@@ -18,7 +18,7 @@ use Rattle.sheet.specs.Lists.{files_of, sources_of, snapshots_of}
 use Rattle.sheet.specs.Accepted.{Accepted, file_of, head_of, source_of, snapshot_of_lem, snapshot_good}
 use Rattle.sheet.specs.declared.Table.{Table}
 use Rattle.index.specs.Index.{rows, listed, entries_in}
-use Rattle.index.specs.laws.Rows.{rows_length, rows_at}
+use Rattle.index.proofs.laws.Rows.{rows_length, rows_at}
 use Rattle.named.specs.Named.{count_in}
 use Rattle.merged.specs.Facts.{Filed, filed, no_file, no_source}
 use Rattle.checks.specs.Table.{file_number, source_number}

@@ -9,16 +9,16 @@ use Rattle.std.proofs.Math.Decide.{ℕ_discrete}
 use Rattle.std.proofs.Math.ListN.{get_or}
 use Rattle.text.specs.Reading.{Text, pick}
 use Rattle.grammar.specs.Tree.{same}
-use Rattle.grammar.specs.laws.Order.{same_true}
+use Rattle.grammar.proofs.laws.Order.{same_true}
 use Rattle.manifest.specs.Rows.{first_or, holds}
 use Rattle.manifest.specs.Rules.{has_path}
 use Rattle.index.specs.Index.{text_at, col_of, entries_in, text_cell, listed, entry_by, entry_at, manifest_of}
-use Rattle.index.specs.laws.Entries.{from, entry_cell}
+use Rattle.index.proofs.laws.Entries.{from, entry_cell}
 use Rattle.prints.specs.Prints.{print_of, print_at}
 use Rattle.index.specs.Cited.{entry_of}
 use Rattle.finds.specs.Finds.{lookups}
-use Rattle.index.specs.laws.Firsts.{first_past, first_found, first_on, first_among}
-use Rattle.index.specs.laws.Paths.{few_entries, path_other, entry_from, entry_start}
+use Rattle.index.proofs.laws.Firsts.{first_past, first_found, first_on, first_among}
+use Rattle.index.proofs.laws.Paths.{few_entries, path_other, entry_from, entry_start}
 use Rattle.finds.specs.laws.Lookups.{lookups_print}
 use Rattle.gather.specs.Gathered.{is_listed, entry_with}
 

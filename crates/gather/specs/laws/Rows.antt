@@ -9,8 +9,8 @@ use Rattle.text.specs.Reading.{Text, pick}
 use Rattle.text.specs.laws.Readers.{pick_true}
 use Rattle.sheet.specs.declared.Table.{Table}
 use Rattle.index.specs.Index.{rows}
-use Rattle.index.specs.laws.Rows.{rows_length}
-use Rattle.index.specs.laws.Put.{Put, put_none, put_row, put_same}
+use Rattle.index.proofs.laws.Rows.{rows_length}
+use Rattle.index.proofs.laws.Put.{Put, put_none, put_row, put_same}
 use Rattle.meant.specs.declared.Owned.{Owned}
 use Rattle.meant.specs.declared.Owned.TheVariants.{Nobody, Whole, Split}
 use Rattle.meant.specs.declared.Part.{Part}

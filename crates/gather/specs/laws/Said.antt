@@ -9,7 +9,7 @@ use Rattle.manifest.specs.Meaning.{Meaning, Listed}
 use Rattle.manifest.specs.declared.Link.TheVariants.{Unrelated}
 use Rattle.index.specs.Index.{col_of, item_of}
 use Rattle.finds.specs.Finds.{name_for, base_at, lookups}
-use Rattle.index.specs.laws.Paths.{few_entries}
+use Rattle.index.proofs.laws.Paths.{few_entries}
 use Rattle.named.specs.Named.{number_at}
 use Rattle.meant.specs.declared.Owned.TheVariants.{Nobody}
 use Rattle.meant.specs.declared.Part.TheVariants.{Undeclared}

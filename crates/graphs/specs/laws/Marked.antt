@@ -9,7 +9,7 @@ use Rattle.std.proofs.Math.ListN.{get_or}
 use Rattle.std.proofs.lemmas.List.{length-replicate, get_or-replicate}
 use Rattle.numbers.specs.Numbers.{clocks}
 use Rattle.paths.specs.Matrix.{graph_of, distances, nexts}
-use Rattle.paths.specs.laws.Table.{tabulate_is, length_tabulate, get_d_tabulate}
+use Rattle.paths.proofs.laws.Table.{tabulate_is, length_tabulate, get_d_tabulate}
 use Rattle.graphs.specs.Links.{links_of}
 use Rattle.graphs.specs.Graphs.{World, world_of, to_trace, guess, joined, graph, linked, marked}
 use Rattle.graphs.specs.laws.Matrix.{Holds, Marks, cell, joined_is, matrix_distances, matrix_nexts}

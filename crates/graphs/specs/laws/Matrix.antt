@@ -7,7 +7,7 @@ use Rattle.std.proofs.Math.Path.{refl}
 use Rattle.std.proofs.Math.Seq.{take-length}
 use Rattle.numbers.specs.Numbers.{clocks}
 use Rattle.whole.specs.Pairs.{Pair}
-use Rattle.paths.specs.Matrix.{far, pair_of, is_graph, empty, graph_of, distances, nexts}
+use Rattle.paths.specs.Matrix.{pair_of, is_graph, empty, graph_of, distances, nexts}
 use Rattle.paths.specs.laws.Graph.{whole_graph, graph_held, graph_empty, graph_whole}
 use Rattle.graphs.specs.Links.{Link, links_of, list_of}
 use Rattle.graphs.specs.Graphs.{World, guess, or_guess, along, some, joined, graph, linked}

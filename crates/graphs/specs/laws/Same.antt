@@ -2,7 +2,7 @@
 use Prim.Native.Nat.{ℕ, zero, suc, ◌≤◌, ◌<◌}
 use Rattle.std.proofs.Common.{arith, ltb-true, le-ltb, ◌∙◌}
 use Rattle.std.proofs.Math.Decide.{dec_lt}
-use Rattle.paths.specs.laws.Reach.{outside}
+use Rattle.paths.proofs.laws.Reach.{outside}
 use Rattle.std.specs.Prelude.{Bool, ◌&&◌, ◌≡◌, List, [], ◌∷◌}
 use Rattle.std.proofs.Math.Bool.{true, false, cond}
 use Rattle.std.proofs.Math.Path.{refl, sym, ap}
@@ -11,9 +11,9 @@ use Rattle.numbers.specs.Numbers.{clocks}
 use Rattle.paths.specs.Paths.{Net, Leads, least, any, reach, dist, nearer, next}
 use Rattle.paths.specs.Matrix.{distances, nexts}
 use Rattle.paths.specs.laws.Least.{least_same}
-use Rattle.paths.specs.laws.Bound.{none_far}
-use Rattle.paths.specs.laws.Best.{next_far}
-use Rattle.paths.specs.laws.Table.{tabulate_same}
+use Rattle.paths.proofs.laws.Bound.{none_far}
+use Rattle.paths.proofs.laws.Best.{next_far}
+use Rattle.paths.proofs.laws.Table.{tabulate_same}
 
 pub record Alike (g h : Net) : Type 0 where
   pub size : g.size ≡ h.size

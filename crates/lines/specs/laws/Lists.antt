@@ -8,7 +8,7 @@ use native.Mathlib.Omega.{arith}
 use Rattle.text.specs.laws.Readers.{pick_true, pick_false}
 use Rattle.manifest.specs.Rows.{first_or, flat}
 use Rattle.index.specs.Index.{listed}
-use Rattle.index.specs.laws.Entries.{from, from_here, from_past}
+use Rattle.index.proofs.laws.Entries.{from, from_here, from_past}
 use Rattle.merged.specs.Merged.{padded}
 use Rattle.checks.specs.laws.Listed.{from_start}
 use Rattle.lines.specs.Lines.{over}

@@ -10,7 +10,7 @@ use Rattle.sheet.specs.Twice.{again}
 use Rattle.sheet.specs.Sheets.{Out, refused, records, table_of, size_wrong, sheet_of}
 use Rattle.sheet.specs.Accepted.{Accepted, accepted}
 use Rattle.merged.specs.Merged.{once, records_of}
-use Rattle.merged.specs.laws.Sheets.{told, read_told}
+use Rattle.merged.proofs.laws.Sheets.{told, read_told}
 
 never : {k : ℕ} {rs : List Record} → refused k ≡ records rs → ⊥
 never e = let z : ◌≡◌ {A = ℕ} 0 1 = cc in omega arith

@@ -18,15 +18,15 @@ use Rattle.records.specs.Readers.{snapshot_at, event_at}
 use Rattle.records.specs.declared.Snapshot.{Snapshot}
 use Rattle.records.specs.declared.Event.{Event}
 use Rattle.index.specs.Index.{listed, entries_in}
-use Rattle.index.specs.laws.Entries.{listed_length}
+use Rattle.index.proofs.laws.Entries.{listed_length}
 use Rattle.meant.specs.Meant as meant
 use Rattle.graphs.specs.Links.{Link}
 use Rattle.merged.specs.Facts.{FileFact, SourceFact}
-use Rattle.merged.specs.laws.Lists.{length_map}
+use Rattle.merged.proofs.laws.Lists.{length_map}
 use Rattle.merged.specs.Refusals.{is_pinned}
 use Rattle.merged.specs.Timeline.{private_clock, domain_clock, file_at, source_at, clock_for, link_from}
 use Rattle.checks.specs.Table.{file_number, source_number, file_by, source_by, files_in, sources_held, facts_by}
-use Rattle.checks.specs.laws.Given.{pinned-is}
+use Rattle.checks.specs.laws.Given.{pinned_is}
 use Rattle.lines.specs.Lines.{entry_links, snapshot_links, link_by, clock_by, events_at, over}
 use Rattle.lines.specs.laws.Lists.{flat_none, flat_more, map_more, listed_more, over_set, over_length}
 use Rattle.lines.specs.laws.Written.{line}
@@ -71,7 +71,7 @@ module _ (t : List ℕ) where
 
   pub pinned_here : (f : ℕ) → f < files_in t → eqb (file_number t f 1) 2 ≡ is_pinned (file_at (facts_by t) f).tie
   unfolding facts_by file_by
-  pinned_here f h = sym (ap (λ (v : FileFact). is_pinned v.tie) (listed_here (file_by t) (files_in t) f _ h) ∙ pinned-is (file_number t f 1))
+  pinned_here f h = sym (ap (λ (v : FileFact). is_pinned v.tie) (listed_here (file_by t) (files_in t) f _ h) ∙ pinned_is (file_number t f 1))
 
   pub pinned_past : (f : ℕ) → files_in t ≤ f → false ≡ is_pinned (file_at (facts_by t) f).tie
   unfolding facts_by is_pinned

@@ -4,7 +4,7 @@ use Rattle.std.proofs.Common.{sym, ap, subst, ◌∙◌, append_assoc, arith, le
 use Rattle.std.proofs.lemmas.List.{length-replicate}
 use Rattle.graphs.specs.Links.{Link}
 use Rattle.merged.specs.Merged.{padded}
-use Rattle.merged.specs.laws.Lists.{length_map}
+use Rattle.merged.proofs.laws.Lists.{length_map}
 use Rattle.lines.specs.Lines.{over}
 use Rattle.lines.specs.laws.Lists.{over_set, over_zeros, map_more, append_none}
 

@@ -15,9 +15,9 @@ use Rattle.values.specs.Integer.{whole}
 use Rattle.manifest.specs.View.{one}
 use Rattle.manifest.specs.Rows.{flat}
 use Rattle.manifest.specs.Statements.{All, all_none, all_one}
-use Rattle.manifest.specs.laws.Bools.{halves}
+use Rattle.manifest.proofs.laws.Bools.{halves}
 use Rattle.index.specs.Index.{col_of, item_of, entries_in, items_in, text_at, at, text_cell, id_cell, offset_cell, listed, item_by, sync_by, clocks_by, entry_by, items_from, entry_at, trace_at, manifest_of}
-use Rattle.index.specs.laws.Paths.{few_items}
+use Rattle.index.proofs.laws.Paths.{few_items}
 use Rattle.listed.specs.Settled.{item_cell, entry_cells, name_cells, first_of, Settled, cell_settled, cells_settled, settled, settled_in}
 use Rattle.listed.specs.laws.Cells.{AllSome, none_some, first_text, first_is, cell_case, cell_none, cell_other, cell_all_some}
 

@@ -11,7 +11,7 @@ use Rattle.std.proofs.lemmas.Bool.{eqb-false}
 use Rattle.text.specs.Reading.{Text, pick}
 use Rattle.text.specs.laws.Readers.{pick_true}
 use Rattle.grammar.specs.Tree.{same}
-use Rattle.grammar.specs.laws.Order.{same_true}
+use Rattle.grammar.proofs.laws.Order.{same_true}
 use Rattle.manifest.specs.Rows.{any}
 use Rattle.index.specs.Index.{text_at}
 use Rattle.listed.specs.Settled.{first_of, with_first, Settled, settled_at, cell_settled, cells_settled}

@@ -6,7 +6,7 @@ use Rattle.text.specs.Reading.{Text}
 use Rattle.text.specs.laws.Readers.{pick_true, pick_false}
 use Rattle.index.specs.Index.{text_at, col_of}
 use Rattle.index.specs.Cited.{cited_by, entry_cited}
-use Rattle.index.specs.laws.Paths.{entry_from, entry_start}
+use Rattle.index.proofs.laws.Paths.{entry_from, entry_start}
 
 module _ (s : Text) (ix : List ℕ) {p : ℕ} where
   pub cited_none : p ≡ 0 → 32 ≡ entry_cited s ix p

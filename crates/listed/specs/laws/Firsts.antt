@@ -7,10 +7,10 @@ use Rattle.std.proofs.Math.ListN.{length, get_or-append, get_or-eq_default}
 use Rattle.std.proofs.lemmas.List.{length-replicate, get_or-replicate}
 use Rattle.text.specs.Reading.{Text}
 use Rattle.grammar.specs.Tree.{same}
-use Rattle.grammar.specs.laws.Order.{same_refl, same_false}
+use Rattle.grammar.proofs.laws.Order.{same_refl, same_false}
 use Rattle.manifest.specs.Rows.{any}
 use Rattle.manifest.specs.Statements.{At, here, further}
-use Rattle.manifest.specs.laws.Lists.{any_false}
+use Rattle.manifest.proofs.laws.Lists.{any_false}
 use Rattle.index.specs.Index.{text_at}
 use Rattle.listed.specs.Settled.{with_first, Settled, cell_settled, cells_settled, name_cells, settled, firsts_in}
 use Rattle.listed.specs.laws.Cells.{taken_length, taken_old, taken_new, first_case, cell_case, cells_keep, cells_few}

@@ -6,7 +6,7 @@ use Rattle.std.proofs.Math.Decide.{dec_lt}
 use Rattle.text.specs.Reading.{Text}
 use Rattle.manifest.specs.Rules.{Rule, applies}
 use Rattle.index.specs.Index.{entries_in, manifest_of}
-use Rattle.index.specs.laws.Entries.{from_entry, applies_is, entry_past, entry_found, entry_on}
+use Rattle.index.proofs.laws.Entries.{from_entry, applies_is, entry_past, entry_found, entry_on}
 use Rattle.listed.specs.laws.Parts.{in_entry}
 
 module _ (r : Rule) (s : Text) (ix : List ℕ) {n : ℕ} (en : n ≡ entries_in ix) {i : ℕ} (inv : applies r (manifest_of s ix) ≡ from_entry r s ix i) where

@@ -10,12 +10,12 @@ use Rattle.text.specs.Reading.{Text}
 use Rattle.text.specs.laws.Readers.{pick_true, pick_false}
 use Rattle.grammar.specs.Tree.{same}
 use Rattle.manifest.specs.Rows.{any, holds}
-use Rattle.manifest.specs.laws.Bools.{halves}
-use Rattle.manifest.specs.laws.Lists.{any_append}
+use Rattle.manifest.proofs.laws.Bools.{halves}
+use Rattle.manifest.proofs.laws.Lists.{any_append}
 use Rattle.index.specs.Index.{text_at, text_cell}
 use Rattle.prints.specs.Prints.{print_at, front}
 use Rattle.prints.specs.laws.Prints.{other_print}
-use Rattle.index.specs.laws.Paths.{path_some}
+use Rattle.index.proofs.laws.Paths.{path_some}
 use Rattle.listed.specs.Settled.{first_of, with_first, settled_at, cell_settled}
 use Rattle.listed.specs.laws.Parts.{Kept, Held, Measured, Table, Placed, so_far, size_at}
 

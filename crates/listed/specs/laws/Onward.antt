@@ -10,7 +10,7 @@ use Rattle.manifest.specs.Rows.{any, flat, declared, cited_machines}
 use Rattle.manifest.specs.Rules.{no_name}
 use Rattle.manifest.specs.Statements.{All, all_none, all_one}
 use Rattle.index.specs.Index.{col_of, entries_in, items_in, listed, entry_at, manifest_of}
-use Rattle.index.specs.laws.Entries.{from, from_past, from_here}
+use Rattle.index.proofs.laws.Entries.{from, from_past, from_here}
 use Rattle.listed.specs.Settled.{item_cell, entry_cells, name_cells, Settled, cell_settled, cells_settled, settled, firsts_in}
 use Rattle.listed.specs.laws.Parts.{Table, so_far, size_at, item_names}
 use Rattle.listed.specs.laws.Cells.{AllSome, none_some, cells_append, cells_all_some}

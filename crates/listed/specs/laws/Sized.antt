@@ -9,9 +9,9 @@ use Rattle.text.specs.Reading.{Text, pick}
 use Rattle.manifest.specs.View.{Cell, absent, wrong, many, one}
 use Rattle.manifest.specs.Rows.{Named, TraceTime, trace_machine, machine_of, its_name, its_clocks, its_syncs, its_items, item_name, own_machine, sync_machine, the, holds, any, flat, declared, cited_machines}
 use Rattle.manifest.specs.Rules.{no_name, outside_of, is_empty, refusal_13_empty_machine_name}
-use Rattle.manifest.specs.laws.Lists.{any_append}
+use Rattle.manifest.proofs.laws.Lists.{any_append}
 use Rattle.index.specs.Index.{text_at, text_cell, at, col_of, item_of, items_in, item_by, sync_by, clocks_by, entry_by, entry_at, trace_at, manifest_of}
-use Rattle.index.specs.laws.Entries.{from, from_here, any_past, item_at, items_are}
+use Rattle.index.proofs.laws.Entries.{from, from_here, any_past, item_at, items_are}
 use Rattle.listed.specs.Settled.{item_cell}
 use Rattle.listed.specs.laws.Rules.{names_10}
 use Rattle.listed.specs.laws.Parts.{in_entry, size_at, item_names}

@@ -11,18 +11,18 @@ use Rattle.std.proofs.Math.Seq.{length-take-le, take_at, drop-drop, get_or-take,
 use Rattle.std.proofs.lemmas.List.{take-append-le, drop-append-le}
 use Rattle.text.specs.Reading.{Text, peek}
 use Rattle.grammar.specs.Tree.{same}
-use Rattle.grammar.specs.laws.Order.{same_refl, same_false}
+use Rattle.grammar.proofs.laws.Order.{same_refl, same_false}
 use Rattle.values.specs.Strings.{same_texts}
 use Rattle.manifest.specs.Rows.{holds}
 use Rattle.index.specs.Index.{col_of, text_at, text_cell}
-use Rattle.index.specs.laws.Put.{Put, put_length, put_after}
+use Rattle.index.proofs.laws.Put.{Put, put_length, put_after}
 use Rattle.prints.specs.Prints.{print_at, path_print, front}
 use Rattle.prints.specs.laws.Fronts.{front_whole}
 use Rattle.prints.specs.laws.Walks.{no_string}
 use Rattle.prints.specs.laws.Empty.{same_string}
 use Rattle.prints.specs.laws.Prints.{other_print, print_tells}
 use Rattle.prints.specs.laws.Tables.{tabled_none, tabled_more}
-use Rattle.index.specs.laws.Paths.{path_some, path_other}
+use Rattle.index.proofs.laws.Paths.{path_some, path_other}
 use Rattle.listed.specs.laws.Parts.{slot, Kept, Held, Measured, Agree, Counted, path_length, Read}
 
 -- ---- a slot is written

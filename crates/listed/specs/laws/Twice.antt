@@ -9,7 +9,7 @@ use Rattle.manifest.specs.View.{Cell, absent, one}
 use Rattle.manifest.specs.Rows.{Entry, holds, any, entries}
 use Rattle.manifest.specs.Rules.{has_path}
 use Rattle.index.specs.Index.{col_of, entries_in, text_at, text_cell, at, listed, entry_by, entry_at, manifest_of}
-use Rattle.index.specs.laws.Entries.{from, any_past, any_found, any_on, entry_cell, entries_are}
+use Rattle.index.proofs.laws.Entries.{from, any_past, any_found, any_on, entry_cell, entries_are}
 use Rattle.listed.specs.laws.Rules.{paths_15}
 use Rattle.listed.specs.laws.Parts.{in_entry, path_before}
 

@@ -8,10 +8,10 @@ use Rattle.manifest.specs.Kinds.{Kind, text, integer, manifest}
 use Rattle.manifest.specs.View.{Cell, absent, wrong, many, one, View, view, as_object, row}
 use Rattle.manifest.specs.Rows.{holds, any}
 use Rattle.manifest.specs.Rules.{Look, mistyped, fine, look, somewhere, twice, ill, applies, first, refusal_8_known_member_twice, refusal_9_wrong_type_or_absent}
-use Rattle.manifest.specs.laws.Members.{split_up}
-use Rattle.manifest.specs.laws.Judge.{tag_number, tag, not_an_array, not_an_object, fits, judged, look_is, judged_wrong, judged_object, judged_array}
-use Rattle.manifest.specs.laws.Table.{lines, kind_at}
-use Rattle.manifest.specs.laws.Walk.{from, from_all}
+use Rattle.manifest.proofs.laws.Members.{split_up}
+use Rattle.manifest.proofs.laws.Judge.{tag_number, tag, not_an_array, not_an_object, fits, judged, look_is, judged_wrong, judged_object, judged_array}
+use Rattle.manifest.proofs.laws.Table.{lines, kind_at}
+use Rattle.manifest.proofs.laws.Walk.{from, from_all}
 use Rattle.members.specs.Members.{member_rules, member_refusal_of}
 use Rattle.members.specs.laws.Flaw.{sought}
 use Rattle.table.specs.Table.{wanted_of}

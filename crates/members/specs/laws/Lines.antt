@@ -13,9 +13,9 @@ use borrow.Author.Tests.{eq-eqb, ne_eqb, lt-ltb, le-ltb}
 use Rattle.text.specs.Reading.{Text}
 use Rattle.text.specs.laws.Readers.{pick_true, pick_false}
 use Rattle.grammar.specs.Tree.{Tree, Members, no_members, one_member, get}
-use Rattle.manifest.specs.laws.Judge.{judged}
-use Rattle.manifest.specs.laws.Table.{Line, lines, kind_at}
-use Rattle.manifest.specs.laws.Walk.{from, from_end, other_place, no_member, one_value, more_values}
+use Rattle.manifest.proofs.laws.Judge.{judged}
+use Rattle.manifest.proofs.laws.Table.{Line, lines, kind_at}
+use Rattle.manifest.proofs.laws.Walk.{from, from_end, other_place, no_member, one_value, more_values}
 use Rattle.members.specs.laws.Flaw.{sought}
 use Rattle.table.specs.Table.{line_at, value_kind}
 use Rattle.table.specs.laws.Looking.{LineOf}

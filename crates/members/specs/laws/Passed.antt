@@ -5,9 +5,9 @@ use Rattle.manifest.specs.Kinds.{manifest}
 use Rattle.manifest.specs.Rows.{Manifest}
 use Rattle.manifest.specs.Rules.{twice, ill, applies, first, refusal_8_known_member_twice, refusal_9_wrong_type_or_absent}
 use Rattle.manifest.specs.Statements.{SoundRow}
-use Rattle.manifest.specs.laws.Bools.{zero_pick}
-use Rattle.manifest.specs.laws.Members.{split_up}
-use Rattle.manifest.specs.laws.Sound.{sound_row}
+use Rattle.manifest.proofs.laws.Bools.{zero_pick}
+use Rattle.manifest.proofs.laws.Members.{split_up}
+use Rattle.manifest.proofs.laws.Sound.{sound_row}
 use Rattle.members.specs.Members.{member_rules}
 
 pub accepted_sound : (m : Manifest) → first member_rules m ≡ 0 → SoundRow manifest m

@@ -5,9 +5,9 @@ use Rattle.text.specs.declared.Scan.{Scan}
 use Rattle.text.specs.declared.Scan.TheVariants.{Done, Bad, Deep}
 use Rattle.grammar.specs.Tree.{Tree, Members, members, get}
 use Rattle.manifest.specs.Rows.{any}
-use Rattle.manifest.specs.laws.Judge.{judged}
-use Rattle.manifest.specs.laws.Table.{Line, lines, kind_at}
-use Rattle.manifest.specs.laws.Walk.{from}
+use Rattle.manifest.proofs.laws.Judge.{judged}
+use Rattle.manifest.proofs.laws.Table.{Line, lines, kind_at}
+use Rattle.manifest.proofs.laws.Walk.{from}
 use Rattle.members.specs.declared.Walk.{Walk}
 use Rattle.members.specs.declared.Known.{Known}
 use Rattle.members.specs.laws.Flaw.{sought}

@@ -26,8 +26,8 @@ use Rattle.placed.specs.declared.Told.{Told}
 use Rattle.placed.specs.declared.Told.TheVariants.{Refused as ToldRefused, Accepted}
 use Rattle.known.specs.Known.{fact_table, links_in, told}
 use Rattle.joins.specs.Joined.{Small, roomy_for, world_by, answers_by, accepted_with}
-use Rattle.joins.specs.Ends.{by_room, accepted_is, machine_small, machines_counted, files_counted, small}
-use Rattle.joins.specs.laws.Arrays.{padded_front}
+use Rattle.joins.proofs.Ends.{by_room, accepted_is, machine_small, machines_counted, files_counted, small}
+use Rattle.joins.proofs.laws.Arrays.{padded_front}
 use Rattle.answered.specs.Answered.{machines_in, events_in, summed}
 use Rattle.settled.specs.Settled.{fitted_in, settled_in}
 use Rattle.settled.specs.laws.Fits.{Long, long_is}

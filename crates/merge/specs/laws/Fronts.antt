@@ -10,7 +10,7 @@ use Rattle.clocks.specs.Answers.{filled}
 use Rattle.checks.specs.Machines.{machine_table}
 use Rattle.lines.specs.Lines.{clock_by, events_at, over}
 use Rattle.joins.specs.Joined.{world_by, events_by, answers_by}
-use Rattle.joins.specs.laws.Arrays.{over_front, links_few, answers_length}
+use Rattle.joins.proofs.laws.Arrays.{over_front, links_few, answers_length}
 use Rattle.answered.specs.Answered.{as_byte, machines_in, marked_in}
 use Rattle.merge.specs.laws.Answers.{Answered, Timed, answers_filled}
 

@@ -15,7 +15,7 @@ use Rattle.merged.specs.Machines.{machine_count}
 use Rattle.merged.specs.Refusals.{checks, first_of, is_pinned}
 use Rattle.merged.specs.Timeline.{bits_of, trace_by}
 use Rattle.merged.specs.Merged.{Room, padded, refused_by, merged}
-use Rattle.merged.specs.laws.Lists.{length_map}
+use Rattle.merged.proofs.laws.Lists.{length_map}
 use Rattle.checks.specs.Table.{facts_by}
 use Rattle.checks.specs.Machines.{machine_table}
 use Rattle.lines.specs.Lines.{links_by}
@@ -26,8 +26,8 @@ use Rattle.placed.specs.declared.Told.TheVariants.{Refused, Accepted}
 use Rattle.known.specs.Known.{table_in, given_by, fact_table, links_in, given_in, told}
 use Rattle.known.specs.Theorems.{told_by}
 use Rattle.joins.specs.Joined.{Read, Small, world_by}
-use Rattle.joins.specs.Ends.{by_manifest, by_sheet, by_both, few_machines, small}
-use Rattle.joins.specs.laws.Arrays.{links_few, world_made}
+use Rattle.joins.proofs.Ends.{by_manifest, by_sheet, by_both, few_machines, small}
+use Rattle.joins.proofs.laws.Arrays.{links_few, world_made}
 
 -- ---- the variants are apart
 

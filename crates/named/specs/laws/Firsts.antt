@@ -12,11 +12,11 @@ use Rattle.std.proofs.Math.Seq.{length-take-le}
 use Rattle.text.specs.Reading.{Text}
 use Rattle.text.specs.laws.Readers.{pick_true, pick_false}
 use Rattle.grammar.specs.Tree.{same}
-use Rattle.grammar.specs.laws.Order.{same_refl}
+use Rattle.grammar.proofs.laws.Order.{same_refl}
 use Rattle.numbers.specs.declared.Machine.{Machine}
 use Rattle.manifest.specs.Rows.{any, first_or}
-use Rattle.index.specs.Index.{text_at, listed}
-use Rattle.index.specs.laws.Entries.{from, from_past, from_here}
+use Rattle.index.specs.Index.{text_at}
+use Rattle.index.proofs.laws.Entries.{from, from_past, from_here}
 use Rattle.prints.specs.Prints.{print_at}
 use Rattle.named.specs.Named.{stands_at, is_called, is_named, number_by, number_at}
 use Rattle.named.specs.laws.Texts.{known}

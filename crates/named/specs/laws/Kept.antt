@@ -12,7 +12,7 @@ use Rattle.std.proofs.Math.Seq.{ext_get_or}
 use Rattle.text.specs.Reading.{Text, pick}
 use Rattle.text.specs.laws.Readers.{pick_true, pick_false}
 use Rattle.grammar.specs.Tree.{same}
-use Rattle.grammar.specs.laws.Order.{same_refl}
+use Rattle.grammar.proofs.laws.Order.{same_refl}
 use Rattle.manifest.specs.Rows.{any}
 use Rattle.index.specs.Index.{text_at}
 use Rattle.named.specs.Named.{name_print}

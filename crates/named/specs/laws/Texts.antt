@@ -8,7 +8,7 @@ use Rattle.text.specs.Reading.{Text, pick}
 use Rattle.grammar.specs.Tree.{same}
 use Rattle.manifest.specs.Rows.{any, flat}
 use Rattle.manifest.specs.Meaning.{without, distinct}
-use Rattle.manifest.specs.laws.Cited.{any_distinct}
+use Rattle.manifest.proofs.laws.Cited.{any_distinct}
 use Rattle.index.specs.Index.{text_at}
 use Rattle.named.specs.Named.{without_at, distinct_at}
 

@@ -15,8 +15,8 @@ use Rattle.merged.specs.declared.Summary.{Summary}
 use Rattle.merged.specs.declared.Answer.{Answer}
 use Rattle.merged.specs.declared.Answer.TheVariants.{Refused, Merged}
 use Rattle.merged.specs.Merged.{records_of, Room, Outcome, accepted_by, merged}
-use Rattle.merged.specs.Demands.{Accepts, accepts}
-use Rattle.merged.specs.laws.Sheets.{told, read_told}
+use Rattle.merged.proofs.Demands.{Accepts, accepts}
+use Rattle.merged.proofs.laws.Sheets.{told, read_told}
 use Rattle.narguvesh_c.specs.Plain.{events_in}
 
 -- the sheet of these records is listed

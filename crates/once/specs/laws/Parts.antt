@@ -5,7 +5,7 @@ use Rattle.manifest.specs.View.{one}
 use Rattle.manifest.specs.Rows.{the, flat, id}
 use Rattle.manifest.specs.Rules.{Rule}
 use Rattle.index.specs.Index.{items_in, entry_at, manifest_of}
-use Rattle.index.specs.laws.Entries.{from, item_at}
+use Rattle.index.proofs.laws.Entries.{from, item_at}
 
 -- rule r applies in entry i
 abbrev pub in_entry : Rule → Text → List ℕ → ℕ → Bool

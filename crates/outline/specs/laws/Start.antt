@@ -1,5 +1,5 @@
 -- The start bytes, compared one after the other. Assumes nothing.
-use Rattle.std.specs.Prelude.{◌≡◌, refl, Bool, true, false, [], ◌∷◌, ℕ, suc, ◌+◌, ◌-◌, ◌≤◌, ◌<◌, length, take, drop, eqb, ltb}
+use Rattle.std.specs.Prelude.{◌≡◌, refl, Bool, true, false, [], ◌∷◌, ℕ, suc, ◌+◌, ◌-◌, ◌≤◌, ◌<◌, length, take, drop, eqb}
 use Rattle.std.proofs.Common.{sym, ap, ◌∙◌, arith, add-one, drop_of_length-le, drop-cons, ltb→lt, ne_eqb}
 use Rattle.std.proofs.Math.Decide.{dec_lt}
 use Rattle.text.specs.Reading.{Text, Out, done, bad, deep, pick, peek, part, word}

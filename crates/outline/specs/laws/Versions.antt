@@ -20,9 +20,9 @@ use Rattle.manifest.specs.Kinds.{free, manifest}
 use Rattle.manifest.specs.View.{Cell, is_one, as_free, rank, cell, view, row}
 use Rattle.manifest.specs.Rows.{Manifest, version, is_absent, any, any_at, entries}
 use Rattle.manifest.specs.Rules.{applies, not_1, first, refusal_6_no_version, refusal_7_version_not_1}
-use Rattle.manifest.specs.laws.Cells.{Full, is_wrong, is_many, is_one as is-just}
-use Rattle.manifest.specs.laws.Lists.{any_at_none}
-use Rattle.manifest.specs.laws.Members.{cell_some, not_one, seven}
+use Rattle.manifest.proofs.laws.Cells.{Full, is_wrong, is_many, is_one as is-just}
+use Rattle.manifest.proofs.laws.Lists.{any_at_none}
+use Rattle.manifest.proofs.laws.Members.{cell_some, not_one, seven}
 use Rattle.outline.specs.Outline.{is_1, not_1_at, version_places, versions_by, versions_at}
 
 -- a member with its name at i and its value at v is a version that isn't the integer 1

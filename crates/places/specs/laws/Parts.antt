@@ -10,7 +10,7 @@ use Rattle.text.specs.laws.Peek.{found_lt}
 use Rattle.text.specs.laws.Readers.{Forward, next_inv, next_was, pick_case, pick_true, pick_false, past_done, bad_done, done_of, done_at}
 use Rattle.grammar.specs.Tree.{Tree, obj, members}
 use Rattle.grammar.specs.Document.{array_tree, object_tree, after, items, many, in_front, member, value, most}
-use Rattle.grammar.specs.laws.Firm.{either_array, either_object, member_read}
+use Rattle.grammar.proofs.laws.Firm.{either_array, either_object, member_read}
 use Rattle.values.specs.laws.Outs.{Stops}
 use Rattle.places.specs.Places.{inner, item_place, member_place, listed, items_at, members_at}
 use Rattle.places.specs.laws.Paired.{many_paired}

@@ -7,7 +7,7 @@ use Rattle.text.specs.Strings.{string}
 use Rattle.text.specs.laws.Readers.{next_inv, next_was, pick_case, pick_true, pick_false, bad_done, done_of, done_at}
 use Rattle.grammar.specs.Tree.{Tree, arr, obj, Trees, Members, one_member, trees, members, list_of_trees, same, get}
 use Rattle.grammar.specs.Document.{value, name, colon, named, bound, member, many, items, after, in_front}
-use Rattle.grammar.specs.laws.Levels.{value_more}
+use Rattle.grammar.proofs.laws.Levels.{value_more}
 use Rattle.values.specs.Stands.{Stands}
 use Rattle.values.specs.laws.Shapes.{Shape, array, object, text, yes_word, no_word, null_is, figure}
 use Rattle.values.specs.laws.Standing.{shape_of}

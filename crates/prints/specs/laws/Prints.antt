@@ -10,7 +10,7 @@ use Rattle.text.specs.Strings.{string}
 use Rattle.text.specs.laws.Raw.{part_join}
 use Rattle.text.specs.laws.Readers.{pick_true, pick_false}
 use Rattle.grammar.specs.Tree.{same}
-use Rattle.grammar.specs.laws.Order.{same_true}
+use Rattle.grammar.proofs.laws.Order.{same_true}
 use Rattle.values.specs.Strings.{same_texts}
 use Rattle.index.specs.Index.{text_in, text_at}
 use Rattle.prints.specs.Prints.{step, steps, word_of, words_of, print_from, told_of, print_of, print_at}

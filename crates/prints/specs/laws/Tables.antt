@@ -4,7 +4,7 @@ use Rattle.std.proofs.Common.{sym, ap, ◌∙◌, arith, length-set, get_or-set_
 use Rattle.std.proofs.Math.Decide.{ℕ_discrete}
 use Rattle.text.specs.Reading.{Text}
 use Rattle.index.specs.Index.{col_of, listed}
-use Rattle.index.specs.laws.Entries.{listed_length}
+use Rattle.index.proofs.laws.Entries.{listed_length}
 use Rattle.prints.specs.Prints.{print_at, path_print, path_prints}
 
 -- f 0, f 1, .. are the first n numbers of a table

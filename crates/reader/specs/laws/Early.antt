@@ -7,7 +7,7 @@ use Rattle.grammar.specs.Tree.{Tree}
 use Rattle.grammar.specs.Document.{read}
 use Rattle.manifest.specs.Manifest.{most_bytes, starts, refusal_in, refusal_of}
 use Rattle.manifest.specs.Statements.{Untouched}
-use Rattle.manifest.specs.laws.Bools.{zero_pick}
+use Rattle.manifest.proofs.laws.Bools.{zero_pick}
 use Rattle.survey.specs.Survey.{early_in, early_of}
 
 -- the text is a document, and none of 1 to 4 applies

@@ -13,15 +13,15 @@ use Rattle.manifest.specs.Rules.{applies, not_1, look, somewhere, emptied, first
 use Rattle.manifest.specs.Meaning.{nothing_said, distinct, names_in, listings, timeline, meant}
 use Rattle.manifest.specs.Manifest.{refusal_of, meaning_of}
 use Rattle.manifest.specs.Statements.{Untouched, Accepted}
-use Rattle.manifest.specs.Theorems.{accepted_is, refused_says_nothing}
-use Rattle.manifest.specs.laws.Bytes.{nothing_meant}
+use Rattle.manifest.proofs.Theorems.{accepted_is, refused_says_nothing}
+use Rattle.manifest.proofs.laws.Bytes.{nothing_meant}
 use Rattle.outline.specs.declared.Standing.{Standing}
 use Rattle.outline.specs.declared.Standing.TheVariants.{At, Refused}
 use Rattle.outline.specs.Outline.{root_at, versions_at}
 use Rattle.outline.specs.Theorems.{root_refused, versions_refused}
 use Rattle.members.specs.Members.{member_refusal_at}
 use Rattle.index.specs.Index.{index_of, too_many, manifest_of}
-use Rattle.index.specs.Theorems.{index_length, zeros_say_nothing}
+use Rattle.index.proofs.Theorems.{index_length, zeros_say_nothing}
 use Rattle.survey.specs.Survey.{index_from}
 use Rattle.listed.specs.Settled.{settled_in}
 use Rattle.listed.specs.Theorems.{settled_is, settled_length}

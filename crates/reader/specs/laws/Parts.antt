@@ -4,7 +4,7 @@ use Rattle.std.proofs.Common.{◌∙◌, eq-eqb, ne_eqb}
 use Rattle.text.specs.laws.Readers.{pick_true, pick_false}
 use Rattle.manifest.specs.Rows.{Manifest}
 use Rattle.manifest.specs.Rules.{Rule, first, rules, refusal_6_no_version, refusal_7_version_not_1, refusal_8_known_member_twice, refusal_9_wrong_type_or_absent, refusal_10_size, refusal_11_unknown_clock_name, refusal_12_machine_with_machines, refusal_13_empty_machine_name, refusal_14_id_out_of_range, refusal_15_path_or_id_twice, refusal_16_clocks_without_sync_to, refusal_17_machine_without_file, refusal_18_sync_to_without_file, refusal_19_file_names_no_entry, refusal_20_no_machine_of_a_split_file, refusal_21_machine_not_declared, refusal_22_offset_not_an_integer, refusal_23_offset_out_of_range}
-use Rattle.manifest.specs.laws.Order.{some_number, numbered, first_append}
+use Rattle.manifest.proofs.laws.Order.{some_number, numbered, first_append}
 use Rattle.members.specs.Members.{member_rules}
 use Rattle.cited.specs.Cited.{cited_rules}
 

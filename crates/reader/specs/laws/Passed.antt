@@ -23,8 +23,8 @@ use Rattle.manifest.specs.Rules.{applies, not_1, first, rules, root, refusal_5_o
 use Rattle.manifest.specs.Meaning.{nothing_said, meant, meaning}
 use Rattle.manifest.specs.Manifest.{refusal_of, meaning_of}
 use Rattle.manifest.specs.Statements.{Untouched, All, all_one, Meets, left_out, stands, Sound, SoundRow}
-use Rattle.manifest.specs.laws.Bools.{halves, not_false, zero_pick}
-use Rattle.manifest.specs.laws.Bytes.{refusal_of_document, meaning_of_document}
+use Rattle.manifest.proofs.laws.Bools.{halves, not_false, zero_pick}
+use Rattle.manifest.proofs.laws.Bytes.{refusal_of_document, meaning_of_document}
 use Rattle.outline.specs.declared.Standing.TheVariants.{At}
 use Rattle.outline.specs.Outline.{object_at, alone, root_from, root_at, versions_at}
 use Rattle.outline.specs.Statements.{Rooted, stands_at}
@@ -32,8 +32,8 @@ use Rattle.outline.specs.Theorems.{root_right, versions_right}
 use Rattle.members.specs.Members.{member_rules, member_refusal_of, member_refusal_at}
 use Rattle.members.specs.Theorems.{object_judged, passed_sound}
 use Rattle.index.specs.Index.{index_of, too_many, manifest_of}
-use Rattle.index.specs.Theorems.{index_right, too_many_10}
-use Rattle.index.specs.laws.Positive.{members_positive}
+use Rattle.index.proofs.Theorems.{index_right, too_many_10}
+use Rattle.index.proofs.laws.Positive.{members_positive}
 use Rattle.reader.specs.laws.Parts.{version_rules, later_rules, first_rest, first_here, versions_numbered, members_numbered}
 
 -- ---- the manifest object

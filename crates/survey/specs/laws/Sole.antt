@@ -7,14 +7,13 @@ use Rattle.text.specs.Class.{skip}
 use Rattle.text.specs.laws.Readers.{pick_true, pick_false, next_was}
 use Rattle.grammar.specs.Tree.{Tree, obj, Members, members}
 use Rattle.grammar.specs.Document.{object_tree, value, name, member, items, ending, read}
-use Rattle.grammar.specs.laws.Levels.{value_more}
-use Rattle.grammar.specs.laws.Names.{quote_first}
-use Rattle.grammar.specs.laws.Firm.{either_object, many_items, items_turn, after_closed, member_read}
+use Rattle.grammar.proofs.laws.Levels.{value_more}
+use Rattle.grammar.proofs.laws.Names.{quote_first}
+use Rattle.grammar.proofs.laws.Firm.{either_object, many_items, items_turn, after_closed, member_read}
 use Rattle.values.specs.Stands.{Stands, kind_by, kind_at}
 use Rattle.places.specs.declared.Entry.TheVariants.{Named, Last}
 use Rattle.places.specs.Places.{inner, named_place, value_place, member_place, entry_of, entry_from, first_member, next_member}
 use Rattle.places.specs.laws.Standing.{name_string, object_of}
-use Rattle.manifest.specs.Manifest.{starts}
 use Rattle.outline.specs.declared.Standing.TheVariants.{At}
 use Rattle.outline.specs.Outline.{object_at, alone, root_from, root_at}
 

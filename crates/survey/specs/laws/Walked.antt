@@ -4,8 +4,8 @@ use Rattle.text.specs.Reading.{Text, Out, done, Reader, next, pick, peek}
 use Rattle.text.specs.Class.{skip}
 use Rattle.grammar.specs.Tree.{Tree, obj, Members, same}
 use Rattle.grammar.specs.Document.{many, name, value}
-use Rattle.manifest.specs.laws.Judge.{tag, judged}
-use Rattle.manifest.specs.laws.Table.{kind_at}
+use Rattle.manifest.proofs.laws.Judge.{tag, judged}
+use Rattle.manifest.proofs.laws.Table.{kind_at}
 use Rattle.manifest.specs.Names.{bytes}
 use Rattle.manifest.specs.Statements.{All}
 use Rattle.outline.specs.Outline.{versions_at}
@@ -14,7 +14,7 @@ use Rattle.table.specs.Table.{line_at, wanted_of, value_kind, first_line}
 use Rattle.table.specs.laws.Looking.{LineOf}
 use Rattle.members.specs.Members.{member_refusal_at}
 use Rattle.index.specs.Index.{column, items_of, rows, item_row, block, index_of, too_many}
-use Rattle.index.specs.laws.Put.{Put}
+use Rattle.index.proofs.laws.Put.{Put}
 use Rattle.fills.specs.laws.Blank.{Blank}
 use Rattle.survey.specs.Survey.{survey_of, surveyed}
 

@@ -23,7 +23,7 @@ use Rattle.text.specs.laws.Readers.{pick_case, pick_false, bad_done, done_of}
 use Rattle.text.specs.laws.Strings.{character_end, string_none}
 use Rattle.text.specs.laws.Utf8.{second_of}
 use Rattle.grammar.specs.Tree.{same}
-use Rattle.manifest.specs.laws.Bools.{halves}
+use Rattle.manifest.proofs.laws.Bools.{halves}
 use Rattle.values.specs.Strings.{is_text, same_as, rest, ascii_at}
 use Rattle.values.specs.laws.Ascii.{ascii_reads}
 use Rattle.values.specs.laws.Ordinary.{plain_itself}

@@ -7,9 +7,9 @@ use Rattle.std.proofs.lemmas.Bool.{not-false}
 use Rattle.text.specs.Reading.{pick}
 use Rattle.grammar.specs.Tree.{same}
 use Rattle.manifest.specs.Kinds.{text, integer, array, object}
-use Rattle.manifest.specs.laws.Bools.{two}
-use Rattle.manifest.specs.laws.Judge.{fits}
-use Rattle.manifest.specs.laws.Table.{Line, lines, kind_at, fields_at}
+use Rattle.manifest.proofs.laws.Bools.{two}
+use Rattle.manifest.proofs.laws.Judge.{fits}
+use Rattle.manifest.proofs.laws.Table.{Line, lines, kind_at, fields_at}
 use Rattle.table.specs.Table.{no_line, line_at, wanted_of, lines_before, first_line}
 use Rattle.values.specs.Theorems.{same_is_equal}
 use Rattle.table.specs.laws.Some.{some, some_not}

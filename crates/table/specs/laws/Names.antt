@@ -11,7 +11,7 @@ use Rattle.text.specs.Reading.{Text, pick}
 use Rattle.grammar.specs.Tree.{same}
 use Rattle.manifest.specs.Names.{bytes}
 use Rattle.manifest.specs.Rows.{first_or}
-use Rattle.manifest.specs.laws.Bools.{two}
+use Rattle.manifest.proofs.laws.Bools.{two}
 use Rattle.values.specs.Strings.{is_text, same_as, rest, ends_in}
 use Rattle.values.specs.Theorems.{ends_is, same_is_equal}
 use Rattle.table.specs.laws.Some.{some, some_not}

@@ -10,7 +10,7 @@ use Rattle.values.specs.declared.Integer.TheVariants.{In, Below, Above}
 use Rattle.values.specs.Integer.{Whole, whole, none, ranged, integer, integer_at, integer_of}
 use Rattle.values.specs.Stands.{Stands, kind_of, kind_at as kindThere}
 use Rattle.values.specs.Theorems.{kind_stands, integer_stands}
-use Rattle.manifest.specs.laws.Judge.{tag_number, tag}
+use Rattle.manifest.proofs.laws.Judge.{tag_number, tag}
 use Rattle.table.specs.Table.{tag_of_number, tag_of, tag_at}
 
 number_is : (w : Whole) → tag_of_number (ranged w) ≡ tag_number w

@@ -1,5 +1,5 @@
 -- The class table computed for all 256 bytes. Assumes nothing.
-use Rattle.std.specs.Prelude.{◌≡◌, Bool, true, ◌&&◌, ◌||◌, List, [], ◌∷◌, ℕ, ◌<◌, leb, ltb, eqb, T}
+use Rattle.std.specs.Prelude.{◌≡◌, Bool, true, ◌&&◌, ◌||◌, List, [], ◌∷◌, ℕ, leb, ltb, eqb, T}
 use Rattle.std.proofs.Common.{arith, lit<, ne_eqb, le-ltb, le-leb}
 use Rattle.text.specs.Reading.{pick}
 use Rattle.text.specs.Class.{Range, range, class_of}

@@ -7,10 +7,10 @@ use native.Mathlib.Omega.{arith}
 use Rattle.std.proofs.lemmas.Bool.{eqb-false}
 use Rattle.text.specs.Reading.{Text, Out, done, bad, deep, next, pick, peek, part}
 use Rattle.text.specs.Class.{class_of}
-use Rattle.text.specs.Strings.{escape, two, three, four, classed, character, utf8, before, onward, characters}
+use Rattle.text.specs.Strings.{two, three, four, classed, character, utf8, before, onward, characters}
 use Rattle.text.specs.Raw.{further, raw_turns, past_raw}
 use Rattle.text.specs.Escapes.{bytes_in}
-use Rattle.text.specs.laws.Readers.{at, at_done_le, pick_case, pick_true, pick_false, bad_done, done_bad, done_at, done_of}
+use Rattle.text.specs.laws.Readers.{at_done_le, pick_case, pick_true, pick_false, bad_done, done_bad, done_at, done_of}
 use Rattle.text.specs.laws.Strings.{character_strict, character_bounded, character_end, characters_more, characters_turns}
 use Rattle.text.specs.laws.Class.{class_within}
 use Rattle.text.specs.laws.Utf8.{part_none, character_raw}

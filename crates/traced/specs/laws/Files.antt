@@ -12,7 +12,7 @@ use Rattle.text.specs.laws.Readers.{pick_true, pick_false}
 use Rattle.manifest.specs.Rows.{first_or}
 use Rattle.index.specs.Index.{listed}
 use Rattle.std.proofs.Math.Nat.{one-le-pow}
-use Rattle.index.specs.laws.Entries.{from, from_here, from_past, listed_length}
+use Rattle.index.proofs.laws.Entries.{from, from_here, from_past, listed_length}
 use Rattle.manifest.specs.declared.Timeline.TheVariants.{Unset}
 use Rattle.numbers.specs.Numbers.{clock_of, no_clock}
 use Rattle.merged.specs.Facts.{FileFact, untied, tied, pinned}

@@ -1,5 +1,5 @@
 -- What is kept at the front of a memory before zeros. Assumes nothing.
-use Rattle.std.specs.Prelude.{◌≡◌, refl, List, [], ◌++◌, ℕ, ◌-◌, ◌≤◌, ◌<◌, min, length, take, drop, replicate}
+use Rattle.std.specs.Prelude.{◌≡◌, List, [], ◌++◌, ℕ, ◌-◌, ◌≤◌, ◌<◌, min, length, take, drop, replicate}
 use Rattle.std.proofs.Common.{sym, ap, ◌∙◌, append-nil, arith, length-take, length-drop, drop_of_length-le, take_all}
 use Rattle.std.proofs.Math.Decide.{dec_lt}
 

@@ -1,0 +1,2 @@
+-- What is proved over the definitions of `cited`.
+pub mod laws

@@ -1,0 +1,14 @@
+-- `cited::refusal_22_offset_not_an_integer` meets its contract: the invariant is that the entries from number i on decide.
+-- Assumes nothing.
+use mathlib.Core.Path.{◌≡◌}
+use Prim.Native.Nat.{◌-◌, ◌≤◌}
+use Rattle.manifest.specs.Rules.{applies, refusal_22_offset_not_an_integer}
+use Rattle.index.specs.Index.{manifest_of}
+use Rattle.index.proofs.laws.Entries.{from_entry}
+use Rattle.cited.proofs.refusal_22_offset_not_an_integer.Given as goal
+
+abbrev pub invariant-loop-i : goal.invariant-loop-i
+invariant-loop-i l = (l.i ≤ l.n) × (applies refusal_22_offset_not_an_integer (manifest_of l.s l.ix) ≡ from_entry refusal_22_offset_not_an_integer l.s l.ix l.i)
+
+abbrev pub decreases-loop-i : goal.decreases-loop-i
+decreases-loop-i l = l.n - l.i

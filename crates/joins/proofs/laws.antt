@@ -1,0 +1,6 @@
+-- Laws for the theorems.
+pub mod Alike
+pub mod Arrays
+pub mod Numbered
+pub mod Owned
+pub mod Shapes

@@ -1,0 +1,11 @@
+-- `listed::clear` meets its contract: the invariant is that k zeros are put in, from the start of the slot on. Assumes nothing.
+use Prim.Native.Nat.{◌-◌, ◌≤◌}
+use lib.ListN.{replicate}
+use Rattle.index.proofs.laws.Put.{Put}
+use Rattle.listed.proofs.clear.Given as goal
+
+abbrev pub invariant-loop-k : goal.invariant-loop-k
+invariant-loop-k l = (l.k ≤ 256) × Put l.initial.texts l.base (replicate l.k 0) l.texts
+
+abbrev pub decreases-loop-k : goal.decreases-loop-k
+decreases-loop-k l = 256 - l.k

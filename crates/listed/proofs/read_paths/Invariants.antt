@@ -1,0 +1,17 @@
+-- `listed::read_paths` meets its contract: the invariant is that the first i paths are read, and that what was found so far and the entries from number i on decide whether a size is
+-- broken. Assumes nothing.
+use mathlib.Core.Bool.{◌||◌}
+use mathlib.Core.Path.{◌≡◌}
+use Prim.Native.Nat.{◌-◌, ◌≤◌}
+use Rattle.manifest.specs.Rules.{applies}
+use Rattle.index.specs.Index.{manifest_of}
+use Rattle.index.proofs.laws.Entries.{from_entry}
+use Rattle.listed.specs.laws.Rules.{own_10}
+use Rattle.listed.specs.laws.Parts.{Read}
+use Rattle.listed.proofs.read_paths.Given as goal
+
+abbrev pub invariant-loop-i : goal.invariant-loop-i
+invariant-loop-i l = (l.i ≤ 32) × Read l.s l.ix l.prints l.lengths l.texts l.i × (applies own_10 (manifest_of l.s l.ix) ≡ (l.broken || from_entry own_10 l.s l.ix l.i))
+
+abbrev pub decreases-loop-i : goal.decreases-loop-i
+decreases-loop-i l = 32 - l.i

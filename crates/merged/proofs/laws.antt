@@ -1,0 +1,4 @@
+-- Laws of the definitions, for the theorems and the proofs.
+pub mod Lists
+pub mod Shape
+pub mod Sheets

@@ -1,0 +1,3 @@
+-- What is proved over the definitions of `named`.
+pub mod laws
+pub mod Theorems

@@ -1,0 +1,15 @@
+-- `written::put` meets its contract: the invariant is that the first j bytes of the text are put in.
+-- Assumes nothing.
+use native.Mathlib.Omega.{arith}
+use lib.Seq.{take_all}
+use Rattle.written.specs.laws.Put.{put_none, put_next, put_same}
+use Rattle.written.proofs.put.Goals as goal
+
+pub loop-j-init : goal.loop-j-init
+loop-j-init c = (omega arith, put_none _ _ (omega (arith, c.requires.0, c.requires.1)))
+
+pub loop-j-preserved : goal.loop-j-preserved
+loop-j-preserved c = (omega arith, put_next _ _ c.loop-j.invariant.1 c.loop-j-test.true (omega (arith, c.requires.0, c.requires.1)))
+
+pub returns : goal.returns
+returns c = put_same (take_all _ _ c.loop-j-test.false) c.loop-j.invariant.1

@@ -1,0 +1,11 @@
+-- `zeros::bytes` meets its contract: the elements passed are zeros. Assumes nothing.
+use Prim.Native.Nat.{◌-◌}
+use lib.ListN.{length}
+use Rattle.zeros.specs.laws.Clear.{Cleared}
+use Rattle.zeros.proofs.bytes.Given as goal
+
+abbrev pub invariant-loop-i : goal.invariant-loop-i
+invariant-loop-i l = Cleared 0 (length l.initial.out) l.out l.i
+
+abbrev pub decreases-loop-i : goal.decreases-loop-i
+decreases-loop-i l = length l.initial.out - l.i
