@@ -11,7 +11,7 @@ import sys
 import tempfile
 
 # What `rt must-fail` says of an edit.
-SAID = re.compile(r"^must-fail (\w+)/([\w.-]+)\.edit: (.*)$", re.M)
+SAID = re.compile(r"^(?:rt: )?must-fail (\w+)/([\w.-]+)\.edit: (.*)$", re.M)
 REFUSED = re.compile(r"refused, as it must be(?! \(only)")
 
 
