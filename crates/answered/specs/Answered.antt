@@ -1,12 +1,10 @@
 -- What is answered and written by a table of what is known (crate checks), a sheet's bytes and a world. Assumes nothing.
-use Rattle.std.specs.Prelude.{List, map, ℕ, min, eqb, ℤ, length, take}
+use Rattle.std.specs.Prelude.{List, map, ℕ, min, eqb, ℤ, length, take, None, Some}
 use Rattle.text.specs.Reading.{pick}
 use Rattle.records.specs.declared.Event.{Event}
 use Rattle.graphs.specs.Graphs.{World}
 use Rattle.clocks.specs.Answers.{Room, Filled, filled}
-use Rattle.merged.specs.declared.Trace.TheVariants.{Nothing, On}
-use Rattle.merged.specs.declared.Answer.{Answer}
-use Rattle.merged.specs.declared.Answer.TheVariants.{Merged}
+use Rattle.merged.specs.Answers.{Answer, Merged}
 use Rattle.checks.specs.Machines.{machine_table}
 use Rattle.lines.specs.Lines.{clock_by, events_at, over, reach}
 use Rattle.placed.specs.declared.Given.{Given}
@@ -39,4 +37,4 @@ events_in t b k w clocks readings room =
 
 -- the answer
 unfoldable pub summed : Given → Answer
-summed g = Merged (record { files = g.files; machines = g.machines; events = g.events; trace = pick (eqb g.files 0) Nothing (On g.trace) })
+summed g = Merged (record { files = g.files; machines = g.machines; events = g.events; trace = pick (eqb g.files 0) None (Some g.trace) })

@@ -1,16 +1,14 @@
 // The answer of a manifest and a sheet that fit each other, in memory that the caller lends.
 #![tactic(auto)]
 
-ghost use Rattle.std.specs.Prelude.{◌≡◌, map, ◌≤◌, min, eqb, pos, length, replicate};
-ghost use Rattle.text.specs.Reading.{pick};
-ghost use Rattle.merged.specs.declared.Trace.TheVariants.{Nothing, On};
+ghost use Rattle.std.specs.Prelude.{◌≡◌, map, ◌≤◌, pos, length, replicate};
+ghost use Rattle.merged.specs.Answers.{Merged};
 ghost use Rattle.merged.specs.Merged.{padded};
 ghost use Rattle.placed.specs.Placed.{world_in, cells};
 ghost use Rattle.answered.specs.Answered.{as_byte, machines_in, clocks_in, readings_in, summed, events_in};
 ghost use Rattle.answered.specs.laws.Marks.{Marked};
 
-use merged::{Answer, Summary, Trace};
-use numbers::Clock;
+use merged::Summary;
 use placed::{Given, Known};
 
 // The most sources of a sheet.
@@ -22,18 +20,11 @@ const COUNTED: usize = 4294967295;
 // A byte for each two clocks.
 const CELLS: usize = numbers::CLOCKS * numbers::CLOCKS;
 
-// A count, or a limit where it is larger.
-fn at_most(n: usize, limit: usize) -> usize
-    ensures { result ≡ min n limit }
-{
-    if n < limit { n } else { limit }
-}
-
 // A number as a byte, or the largest byte where it is larger.
 fn byte(n: usize) -> u8
     ensures { result ≡ as_byte n }
 {
-    if n < 255 { n as u8 } else { 255 }
+    n.min(255) as u8
 }
 
 // Writes the machine of each source, and zeros past them.
@@ -41,36 +32,22 @@ fn write_machines(each: &[usize], machines: &mut [u8])
     requires { length each.now ≤ length machines.old }
     ensures { machines.new ≡ padded 0 (length machines.old) (map as_byte each.now) }
 {
-    zeros::bytes(machines);
-    let n = each.len();
-    let mut j: usize = 0;
-    while j < n {
+    machines.fill(0);
+    for j in 0..each.len() {
         machines[j] = byte(each[j]);
-        j += 1;
     }
 }
 
-// The trace-time clock; none for a sheet without files.
-fn trace_of(files: u8, trace: Clock) -> Trace
-    ensures { result ≡ pick (eqb files 0) Nothing (On trace) }
+// What is counted: the trace-time clock is none for a sheet without files.
+fn summary(given: Given) -> Summary
+    ensures { Merged result ≡ summed given }
 {
-    if files == 0 {
-        return Trace::Nothing;
-    }
-    Trace::On(trace)
-}
-
-// What is answered.
-fn summary(given: Given) -> Answer
-    ensures { result ≡ summed given }
-{
-    let on = trace_of(given.files, given.trace);
-    Answer::Merged(Summary {
+    Summary {
         files: given.files,
         machines: given.machines,
         events: given.events,
-        trace: on,
-    })
+        trace: (given.files != 0).then_some(given.trace),
+    }
 }
 
 // Writes the machine of each source, zeros past them, and the clock and the reading of each event.
@@ -88,12 +65,13 @@ fn mark(
 {
     let mut each: [usize; 32] = [0; 32];
     checks::machines(t, &mut each);
-    let n = at_most(sources, at_most(SOURCES, machines.len()));
-    write_machines(&each[0..n], machines);
-    let k = at_most(events, COUNTED) as u32;
+    let n = sources.min(SOURCES.min(machines.len()));
+    write_machines(&each[..n], machines);
+    let k = events.min(COUNTED) as u32;
     lines::events(t, &each, b, at, k, clocks, readings);
 }
 
+// The memories are parameters: each clause on a struct of `&mut` would also say that its fields are the same references.
 // Answers by the tables: `machines` holds the machine of each source, `times`, `kinds` and `steps` each event's answer, as placed::place gives
 // them; zeros follow, and the work memories hold zeros. What place uses of the matrix it leaves as zeros, so that only the rest is cleared.
 pub fn answer<'a>(
@@ -111,8 +89,8 @@ pub fn answer<'a>(
     matrix: &mut [u8],
     readings: &mut [i64],
     clocks: &mut [u16],
-) -> Answer
-    ensures answer { result ≡ summed known.given }
+) -> Summary
+    ensures answer { Merged result ≡ summed known.given }
     ensures machines { machines.new ≡ padded 0 (length machines.old) (machines_in t.now known.sources (length machines.old)) }
     ensures times { times.exit.now ≡ (events_in t.now b.now known (world_in known.given a.now x.now c.now y.now) clocks.old readings.old (record { times = length times.entry.now; kinds = length kinds.old; steps = length steps.old; matrix = cells matrix.old })).times }
     ensures kinds { kinds.new ≡ (events_in t.now b.now known (world_in known.given a.now x.now c.now y.now) clocks.old readings.old (record { times = length times.entry.now; kinds = length kinds.old; steps = length steps.old; matrix = cells matrix.old })).kinds }

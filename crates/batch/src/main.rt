@@ -5,6 +5,8 @@
 
 ghost use Rattle.std.specs.Prelude.{◌≤◌, length, IfOk};
 
+use merged::Summary;
+use refusals::Refusal;
 use std::io;
 use std::io::Read;
 
@@ -102,7 +104,7 @@ fn count(got: isize, buf: &[u8]) -> usize
 // Writes the lines of an answer. The memory fits every answer (docs/MEMORY.md).
 fn write_lines(
     rt: &impl Print,
-    answer: merged::Answer,
+    answer: Result<Summary, Refusal>,
     times: &[i64],
     kinds: &[u8],
     steps: &[u16],

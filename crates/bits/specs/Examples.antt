@@ -1,7 +1,5 @@
 -- Worked examples, by computing. Assumes nothing.
-use Rattle.std.specs.Prelude.{◌≡◌, refl, List, [], ◌∷◌, ℕ, pos, negsuc}
-use Rattle.bits.specs.declared.Field.TheVariants.{Got, Cut}
-use Rattle.bits.specs.declared.Reading.TheVariants.{Read, Short}
+use Rattle.std.specs.Prelude.{◌≡◌, refl, Some, None, List, [], ◌∷◌, ℕ, pos, negsuc}
 use Rattle.bits.specs.Bits.{number, may_stand, inside, field_at, taken_at, reading_at}
 
 -- 1010 0101 0000 1111
@@ -9,29 +7,29 @@ abbrev two : List ℕ
 two = 0xa5 ∷ 0x0f ∷ []
 
 -- ---- fields
-first_nibble : field_at two 0 4 ≡ Got 0b1010 (record { at = 4 })
+first_nibble : field_at two 0 4 ≡ Some (record { value = 0b1010; next = record { at = 4 } })
 unfolding field_at may_stand inside number
 first_nibble = refl
 
-across_bytes : field_at two 4 10 ≡ Got 0b0101000011 (record { at = 14 })
+across_bytes : field_at two 4 10 ≡ Some (record { value = 0b0101000011; next = record { at = 14 } })
 unfolding field_at may_stand inside number
 across_bytes = refl
 
 -- up to the last bit, and one bit too many
-to_the_end : field_at two 7 9 ≡ Got 0b100001111 (record { at = 16 })
+to_the_end : field_at two 7 9 ≡ Some (record { value = 0b100001111; next = record { at = 16 } })
 unfolding field_at may_stand inside number
 to_the_end = refl
 
-one_too_many : field_at two 8 9 ≡ Cut
+one_too_many : field_at two 8 9 ≡ None
 unfolding field_at may_stand inside number
 one_too_many = refl
 
 -- no bits at the end are there, past the end they are not
-none_at_the_end : field_at two 16 0 ≡ Got 0 (record { at = 16 })
+none_at_the_end : field_at two 16 0 ≡ Some (record { value = 0; next = record { at = 16 } })
 unfolding field_at may_stand inside number
 none_at_the_end = refl
 
-none_past_the_end : field_at two 17 0 ≡ Cut
+none_past_the_end : field_at two 17 0 ≡ None
 unfolding field_at may_stand inside number
 none_past_the_end = refl
 
@@ -49,18 +47,18 @@ unfolding taken_at may_stand number
 too_far = refl
 
 -- ---- readings at bit 3
-minus_one : reading_at (0x1f ∷ 0xff ∷ 0xff ∷ 0xff ∷ 0xff ∷ 0xff ∷ 0xff ∷ 0xff ∷ 0xe0 ∷ []) 3 ≡ Read (negsuc 0) (record { at = 67 })
+minus_one : reading_at (0x1f ∷ 0xff ∷ 0xff ∷ 0xff ∷ 0xff ∷ 0xff ∷ 0xff ∷ 0xff ∷ 0xe0 ∷ []) 3 ≡ Some (record { value = negsuc 0; next = record { at = 67 } })
 unfolding reading_at field_at may_stand inside number
 minus_one = refl
 
-least : reading_at (0x10 ∷ 0x00 ∷ 0x00 ∷ 0x00 ∷ 0x00 ∷ 0x00 ∷ 0x00 ∷ 0x00 ∷ 0x00 ∷ []) 3 ≡ Read (negsuc 0x7fffffffffffffff) (record { at = 67 })
+least : reading_at (0x10 ∷ 0x00 ∷ 0x00 ∷ 0x00 ∷ 0x00 ∷ 0x00 ∷ 0x00 ∷ 0x00 ∷ 0x00 ∷ []) 3 ≡ Some (record { value = negsuc 0x7fffffffffffffff; next = record { at = 67 } })
 unfolding reading_at field_at may_stand inside number
 least = refl
 
-greatest : reading_at (0x0f ∷ 0xff ∷ 0xff ∷ 0xff ∷ 0xff ∷ 0xff ∷ 0xff ∷ 0xff ∷ 0xe0 ∷ []) 3 ≡ Read (pos 0x7fffffffffffffff) (record { at = 67 })
+greatest : reading_at (0x0f ∷ 0xff ∷ 0xff ∷ 0xff ∷ 0xff ∷ 0xff ∷ 0xff ∷ 0xff ∷ 0xe0 ∷ []) 3 ≡ Some (record { value = pos 0x7fffffffffffffff; next = record { at = 67 } })
 unfolding reading_at field_at may_stand inside number
 greatest = refl
 
-cut_short : reading_at (0x1f ∷ 0xff ∷ 0xff ∷ 0xff ∷ 0xff ∷ 0xff ∷ 0xff ∷ 0xff ∷ []) 1 ≡ Short
+cut_short : reading_at (0x1f ∷ 0xff ∷ 0xff ∷ 0xff ∷ 0xff ∷ 0xff ∷ 0xff ∷ 0xff ∷ []) 1 ≡ None
 unfolding reading_at field_at may_stand inside number
 cut_short = refl

@@ -1,23 +1,27 @@
 -- An event's answer. Assumes nothing.
-use Rattle.std.specs.Prelude.{Bool, true, false, cond, ◌&&◌, List, [], ◌∷◌, ◌++◌, map, ℕ, ◌+◌, ◌*◌, ◌-◌, ltb, leb, eqb, length, replicate, ℤ, pos}
+use Rattle.std.specs.Prelude.{Bool, true, false, cond, ◌&&◌, List, [], ◌∷◌, ◌++◌, map, ℕ, ◌+◌, ◌*◌, ◌-◌, ltb, leb, eqb, length, replicate, ℤ, pos, Option, Some, None, Result, Ok, Err}
 use Rattle.std.specs.Int.Signed.{lt_z}
-use Rattle.whole.specs.declared.Sum.{Sum}
-use Rattle.whole.specs.declared.Sum.TheVariants.{In, Out}
 use Rattle.whole.specs.Pairs.{Pair, converted}
 use Rattle.paths.specs.Paths.{dist, path}
 use Rattle.paths.specs.Matrix.{far}
 use Rattle.numbers.specs.Numbers.{clocks}
 use Rattle.graphs.specs.Graphs.{World, along, graph}
-use Rattle.clocks.specs.declared.Answer.{Answer}
-use Rattle.clocks.specs.declared.Answer.TheVariants.{Placed, Dropped}
+use Rattle.clocks.specs.declared.Timed.{Timed}
+use Rattle.clocks.specs.declared.Reason.{Reason}
+use Rattle.clocks.specs.declared.Reason.TheVariants.{Outside, Early}
+
+-- an event's answer: its time on the trace-time clock, the graph and the steps of its path; or why it was dropped
+pub data Answer : Type 0 where
+  Placed : ℤ → ℕ → ℕ → Answer
+  Dropped : ℕ → Answer
 
 -- a value converted along a pair's list; what was out of range stays so
-unfoldable pub through : List Pair → Sum → Sum
-through ps (In t) = converted t ps
-through ps Out = Out
+unfoldable pub through : List Pair → Option ℤ → Option ℤ
+through ps (Some t) = converted t ps
+through ps None = None
 
--- a value converted along a path of graph g from clock c, pair by pair: In if it is within 64 bits after each pair
-unfoldable pub carried : ℕ → World → ℕ → List ℕ → Sum → Sum
+-- a value converted along a path of graph g from clock c, pair by pair: Some if it is within 64 bits after each pair
+unfoldable pub carried : ℕ → World → ℕ → List ℕ → Option ℤ → Option ℤ
 carried g w c [] v = v
 carried g w c (d ∷ p) v = carried g w d p (through (along g w c d) v)
 
@@ -31,14 +35,23 @@ outside = 2
 abbrev pub early : ℕ
 early = 3
 
+-- the number of a drop, and what the code's result says of an event that has a path
+abbrev pub number : Reason → ℕ
+number Outside = outside
+number Early = early
+
+abbrev pub told : Result Timed Reason → Answer
+told (Ok p) = Placed p.time p.graph p.steps
+told (Err r) = Dropped (number r)
+
 -- what the value at the end of a path of so many steps in graph g comes to
-unfoldable pub ended : ℕ → ℕ → Sum → Answer
-ended g steps Out = Dropped outside
-ended g steps (In t) = cond (lt_z t (pos 0)) (Dropped early) (Placed t g steps)
+unfoldable pub ended : ℕ → ℕ → Option ℤ → Answer
+ended g steps None = Dropped outside
+ended g steps (Some t) = cond (lt_z t (pos 0)) (Dropped early) (Placed t g steps)
 
 -- by the best path in graph g
 unfoldable pub placed : ℕ → World → ℕ → ℤ → Answer
-placed g w c t = ended g (length (path (graph g w) c)) (carried g w c (path (graph g w) c) (In t))
+placed g w c t = ended g (length (path (graph g w) c)) (carried g w c (path (graph g w) c) (Some t))
 
 -- graph g has a path from c to trace time
 unfoldable pub related : ℕ → World → ℕ → Bool

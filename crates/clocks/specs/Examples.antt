@@ -1,16 +1,14 @@
 -- Worked examples, by computing: the pinned file's private clock, 194, reads 0 where clock 11 reads 250000000; trace time is clock 5.
 -- First the values along a path; then that it is the event's path, and so the event's answer. Assumes nothing.
-use Rattle.std.specs.Prelude.{◌≡◌, refl, List, [], ◌∷◌, ℕ, ℤ, pos, neg_ℤ}
+use Rattle.std.specs.Prelude.{◌≡◌, refl, List, [], ◌∷◌, ℕ, ℤ, pos, neg_ℤ, Some}
 use Rattle.std.proofs.Common.{◌∙◌, arith}
 use Rattle.numbers.specs.Numbers.{what_is}
-use Rattle.whole.specs.declared.Sum.TheVariants.{In}
 use Rattle.whole.specs.Whole.{reading, shifted_of}
 use Rattle.whole.specs.Pairs.{xs_of, better, place_from, place_for, carried_by, converted}
 use Rattle.paths.specs.Paths.{Leads, least}
 use Rattle.graphs.specs.Links.{list_of}
 use Rattle.graphs.specs.Graphs.{World, domains, loose, to_trace, guess, or_guess, along, some, joined, graph}
-use Rattle.clocks.specs.declared.Answer.TheVariants.{Placed, Dropped}
-use Rattle.clocks.specs.Answers.{through, carried, ended, answer_of, time_of, kind_of, steps_of}
+use Rattle.clocks.specs.Answers.{Placed, Dropped, through, carried, ended, answer_of, time_of, kind_of, steps_of}
 use Rattle.clocks.specs.Theorems.{no_chain_unrelated, chosen_answer}
 use Rattle.clocks.specs.laws.Chains.{Chosen}
 use Rattle.clocks.specs.laws.Known.{among, inside, shut_none, one_best, two_best, known_first, known_after}
@@ -19,21 +17,21 @@ abbrev world : ℤ → ℕ → World
 world offset trace = record { machines = 2; files = 3; pinned = 4; trace = trace; links = record { a = 194; x = pos 0; b = 11; y = offset } ∷ [] }
 
 -- 7 goes 194, 11, 5: graph 3, 2 steps
-two_steps : ended 3 2 (carried 3 (world (pos 250000000) 5) 194 (11 ∷ 5 ∷ []) (In (pos 7))) ≡ Placed (pos 250000007) 3 2
+two_steps : ended 3 2 (carried 3 (world (pos 250000000) 5) 194 (11 ∷ 5 ∷ []) (Some (pos 7))) ≡ Placed (pos 250000007) 3 2
 unfolding ended carried through along or_guess guess domains to_trace loose what_is list_of converted carried_by place_for place_from better xs_of shifted_of reading
 two_steps = refl
 
 -- with trace time on clock 11: graph 1, 1 step; and with the offset -8: drop 3
-one_step : ended 1 1 (carried 1 (world (pos 250000000) 11) 194 (11 ∷ []) (In (pos 7))) ≡ Placed (pos 250000007) 1 1
+one_step : ended 1 1 (carried 1 (world (pos 250000000) 11) 194 (11 ∷ []) (Some (pos 7))) ≡ Placed (pos 250000007) 1 1
 unfolding ended carried through along or_guess guess domains to_trace loose what_is list_of converted carried_by place_for place_from better xs_of shifted_of reading
 one_step = refl
 
-before_the_start : ended 1 1 (carried 1 (world (neg_ℤ (pos 8)) 11) 194 (11 ∷ []) (In (pos 7))) ≡ Dropped 3
+before_the_start : ended 1 1 (carried 1 (world (neg_ℤ (pos 8)) 11) 194 (11 ∷ []) (Some (pos 7))) ≡ Dropped 3
 unfolding ended carried through along or_guess guess domains to_trace loose what_is list_of converted carried_by place_for place_from better xs_of shifted_of reading
 before_the_start = refl
 
 -- a value past 64 bits after the first pair: drop 2, whatever comes then
-out_of_range : ended 3 2 (carried 3 (world (pos 9223372036854775807) 5) 194 (11 ∷ 5 ∷ []) (In (pos 7))) ≡ Dropped 2
+out_of_range : ended 3 2 (carried 3 (world (pos 9223372036854775807) 5) 194 (11 ∷ 5 ∷ []) (Some (pos 7))) ≡ Dropped 2
 unfolding ended carried through along or_guess guess domains to_trace loose what_is list_of converted carried_by place_for place_from better xs_of shifted_of reading
 out_of_range = refl
 

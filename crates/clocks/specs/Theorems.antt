@@ -1,13 +1,11 @@
 -- What the answers come to, said of chains and of exact sums, and what they do not depend on. Assumes nothing.
-use Rattle.std.specs.Prelude.{◌≡◌, true, false, List, ◌∷◌, ◌++◌, ℕ, ◌<◌, length, ℤ, pos}
+use Rattle.std.specs.Prelude.{◌≡◌, true, false, List, ◌∷◌, ◌++◌, ℕ, ◌<◌, length, ℤ, pos, Some}
 use Rattle.std.specs.Int.Signed.{lt_z}
 use Rattle.numbers.specs.Numbers.{clocks}
-use Rattle.whole.specs.declared.Sum.TheVariants.{In}
 use Rattle.paths.specs.Paths.{Leads}
 use Rattle.graphs.specs.Links.{Link}
 use Rattle.graphs.specs.Graphs.{World, graph}
-use Rattle.clocks.specs.declared.Answer.TheVariants.{Placed, Dropped}
-use Rattle.clocks.specs.Answers.{carried, unrelated, outside, early, ended, answer_of, answers_of}
+use Rattle.clocks.specs.Answers.{Placed, Dropped, carried, unrelated, outside, early, ended, answer_of, answers_of}
 use Rattle.clocks.specs.Statements.{SameWorld, with_links, Apart, Rearranged}
 use Rattle.whole.specs.Pairs.{Pair, converted}
 use Rattle.clocks.specs.laws.Firsts as firsts
@@ -59,11 +57,11 @@ chosen_only = answered.chosen_only
 pub exact_only : {g : ℕ} {w : World} {c : ℕ} {p : List ℕ} {t v u : ℤ} → Exact g w c p t v → Exact g w c p t u → v ≡ u
 exact_only = answered.exact_only
 
-pub chosen_answer : {w : World} {c g : ℕ} {p : List ℕ} → Chosen w c g p → (t : ℤ) → answer_of w c t ≡ ended g (length p) (carried g w c p (In t))
+pub chosen_answer : {w : World} {c g : ℕ} {p : List ℕ} → Chosen w c g p → (t : ℤ) → answer_of w c t ≡ ended g (length p) (carried g w c p (Some t))
 chosen_answer = answered.chosen_answer
 
 -- On trace time itself: graph 1 and 0 steps, and dropped if negative.
-pub on_trace : (w : World) (t : ℤ) → w.trace < clocks → answer_of w w.trace t ≡ ended 1 0 (In t)
+pub on_trace : (w : World) (t : ℤ) → w.trace < clocks → answer_of w w.trace t ≡ ended 1 0 (Some t)
 on_trace = chains.at_trace
 
 -- A conversion does not depend on how the list was ordered, only on what it lists first of each x: two lists that agree in these, as a

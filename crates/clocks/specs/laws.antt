@@ -2,6 +2,7 @@
 pub mod Order
 pub mod Chosen
 pub mod Walk
+pub mod Given
 pub mod Rows
 pub mod Chains
 pub mod Firsts

@@ -15,11 +15,12 @@ use Rattle.sheet.specs.Sheets.{records}
 use Rattle.paths.specs.Paths.{Leads}
 use Rattle.graphs.specs.Graphs.{World, graph}
 use Rattle.merged.specs.declared.Summary.{Summary}
-use Rattle.merged.specs.declared.Answer.TheVariants.{Merged}
+use Rattle.merged.specs.Answers.{Merged}
 use Rattle.merged.specs.Facts.{Filed, Parts, parts_of, no_source, facts_of}
 use Rattle.merged.specs.Refusals.{checks, first_of, refusal_32_path_not_in_sheet, refusal_33_clocks_on_a_container, refusal_34_id_not_declared, refusal_35_machine_on_several_sources, refusal_36_pinned_file_with_a_snapshot}
 use Rattle.merged.specs.Timeline.{private_clock, domain_clock, clock_for, event_clock, world_of}
-use Rattle.merged.specs.Merged.{records_of, Room, merged}
+use Rattle.merged.specs.declared.Room.{Room}
+use Rattle.merged.specs.Merged.{records_of, merged}
 use Rattle.merged.proofs.Demands.{Accepts}
 use Rattle.exact.specs.Words.{Exactly, ListedFile, Pins, SourceOf, Applies, PathNotInSheet, ClocksOnContainer, IdNotDeclared, MachineOnSeveral, PinnedWithSnapshot, NoneTogether, Agrees, IsPlaced, IsOutside, IsEarly, Holds, Unsaid, ById}
 use Rattle.exact.proofs.laws.Entries.{Tidy, accepted_tidy}

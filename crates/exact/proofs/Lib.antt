@@ -1,3 +1,4 @@
 -- What is proved over the definitions of `exact`.
 pub mod laws
 pub mod Exact
+pub mod Told

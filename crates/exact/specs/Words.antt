@@ -21,7 +21,8 @@ use Rattle.sheet.specs.Sheets.{records}
 use Rattle.merged.specs.Facts.{Filed, Parts, parts_of, facts_of}
 use Rattle.merged.specs.Machines.{machine_count}
 use Rattle.merged.specs.Refusals.{Check}
-use Rattle.merged.specs.Merged.{records_of, Room, roomy, Outcome}
+use Rattle.merged.specs.declared.Room.{Room}
+use Rattle.merged.specs.Merged.{records_of, roomy, Outcome}
 
 -- the one exactly if the other
 abbrev pub Exactly : Type 0 → Type 0 → Type 0

@@ -1,4 +1,5 @@
 -- Laws that the proofs of the functions use.
+pub mod Tested
 pub mod Words
 pub mod Steps
 pub mod Recorded

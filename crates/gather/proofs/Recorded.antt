@@ -16,7 +16,7 @@ use Rattle.records.specs.Readers.{far, source_at}
 use Rattle.records.specs.declared.Snapshot.{Snapshot}
 use Rattle.text.specs.laws.Readers.{pick_true, pick_false}
 use Rattle.sheet.specs.declared.Table.{Table}
-use Rattle.checks.specs.laws.Listed.{Open, open_start, open_found, open_on, open_past}
+use Rattle.gather.proofs.Tested.{Open, open_start, open_found, open_on, open_past}
 use Rattle.gather.specs.Gathered.{flag, recorded_in}
 use Rattle.gather.specs.laws.Near.{Recorded}
 use Rattle.gather.proofs.Steps.{snapshot_in, file_in}

@@ -24,7 +24,7 @@ use Rattle.sheet.specs.Places.{place_of, place_in, file_places}
 use Rattle.sheet.specs.Sheets.{read_of}
 use Rattle.sheet.specs.laws.Places.{places_at, length_from}
 use Rattle.sheet.specs.declared.Table.{Table}
-use Rattle.sheet.specs.declared.Sheet.TheVariants.{Refused, Listed}
+use Rattle.sheet.specs.Sheets.{Refused, Listed}
 use Rattle.outline.specs.Outline.{domain_at}
 use Rattle.index.specs.Index.{col_of, rows, entries_in}
 use Rattle.index.proofs.laws.Rows.{rows_length, rows_at}

@@ -56,9 +56,9 @@ octets_are b at = λ i.
 put_on : {old mid w : List ℕ} {base : ℕ} → Put old base w mid → {n : ℕ} → n ≡ base + length w → n < length old → (x : ℕ) → Put old base (w ++ (x ∷ [])) (set mid n x)
 put_on {mid = mid} p {n} e h x = put_more p e (put_one mid n x (omega (arith, put_length p)))
 
-module _ (b : List ℕ) (at : ℕ) {x : Taken} (e : x ≡ taken_at b at 64) (near : at < 0x2000000000) where
+module _ (b : List ℕ) (at : ℕ) {x : Taken ℕ} (e : x ≡ taken_at b at 64) (near : at < 0x2000000000) where
   word_is : x.value ≡ number b at 64
-  word_is = ap (λ (y : Taken). y.value) (e ∙ take_in b at 64 (omega arith) (omega arith))
+  word_is = ap (λ (y : Taken ℕ). y.value) (e ∙ take_in b at 64 (omega arith) (omega arith))
 
   pub word_put : (path : List ℕ) (i : ℕ) → i + 8 ≤ length path
       → Put path i (bytes_at b at 8)

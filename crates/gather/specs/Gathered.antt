@@ -14,8 +14,7 @@ use Rattle.records.specs.declared.Snapshot.{Snapshot}
 use Rattle.sheet.specs.Places.{place_of}
 use Rattle.sheet.specs.Sheets.{read_of}
 use Rattle.sheet.specs.declared.Table.{Table}
-use Rattle.sheet.specs.declared.Sheet.{Sheet}
-use Rattle.sheet.specs.declared.Sheet.TheVariants.{Refused, Listed}
+use Rattle.sheet.specs.Sheets.{Sheet, Refused, Listed}
 use Rattle.index.specs.Index.{col_of, rows, listed, text_cell, entries_in}
 use Rattle.prints.specs.Prints.{print_of}
 use Rattle.named.specs.Named.{count_in}

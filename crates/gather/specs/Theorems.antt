@@ -17,7 +17,7 @@ use Rattle.sheet.specs.Sheets.{Out, refused, records, sheet_of, size_wrong, tabl
 use Rattle.sheet.specs.Twice.{again}
 use Rattle.sheet.specs.Accepted.{Accepted, accepted, source_of}
 use Rattle.sheet.specs.declared.Table.{Table}
-use Rattle.sheet.specs.declared.Sheet.TheVariants.{Listed}
+use Rattle.sheet.specs.Sheets.{Listed}
 use Rattle.index.specs.Index.{listed, manifest_of}
 use Rattle.index.specs.Cited.{entry_of}
 use Rattle.finds.specs.Finds.{lookups}

@@ -5,7 +5,7 @@ ghost use Rattle.std.specs.Prelude.{◌≡◌, [], ◌∷◌, ◌+◌, ◌*◌, 
 ghost use Rattle.records.specs.Layout.{bytes_at};
 ghost use Rattle.records.specs.Readers.{path_at, source_at, snapshot_at};
 ghost use Rattle.sheet.specs.Places.{place_of};
-ghost use Rattle.sheet.specs.Sheets.{read_of};
+ghost use Rattle.sheet.specs.Sheets.{read_of, told};
 ghost use Rattle.grammar.specs.Tree.{same};
 ghost use Rattle.manifest.specs.Rows.{holds};
 ghost use Rattle.index.specs.Index.{text_cell, rows, entries_in};
@@ -17,7 +17,8 @@ ghost use Rattle.gather.specs.laws.Near.{Near, Cites, Known, Recorded};
 
 use bits::Cursor;
 use meant::{Owned, Part};
-use sheet::{Sheet, Table};
+use refusals::Refusal;
+use sheet::Table;
 
 // A number of 8 bits as one of the table's.
 fn small(x: u8) -> u32
@@ -325,16 +326,11 @@ pub fn gather(
     lookups: &[usize; 129],
     b: &[u8],
     t: &mut [u32; 324],
-) -> Sheet
-    ensures { (result ≡ read_of b.now) × (t.new ≡ gathered s.now ix.now lookups.now b.now) }
+) -> Result<Table, Refusal>
+    ensures { (told result ≡ read_of b.now) × (t.new ≡ gathered s.now ix.now lookups.now b.now) }
 {
-    let zeros: [u32; 324] = [0; 324];
-    *t = zeros;
-    match sheet::read(b) {
-        Sheet::Refused(k) => Sheet::Refused(k),
-        Sheet::Listed(table) => {
-            fill(s, ix, lookups, b, table, t);
-            Sheet::Listed(table)
-        }
-    }
+    *t = [0; 324];
+    let table = sheet::read(b)?;
+    fill(s, ix, lookups, b, table, t);
+    Ok(table)
 }

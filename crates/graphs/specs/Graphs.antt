@@ -1,7 +1,7 @@
 -- The three graphs: which pairs each has. Assumes nothing.
-use Rattle.std.specs.Prelude.{Bool, true, false, cond, not, ◌&&◌, ◌||◌, List, [], ◌∷◌, ℕ, ◌*◌, ◌/◌, ◌%◌, ◌^◌, eqb, leb, ltb, length, get_or, ℤ, pos}
+use Rattle.std.specs.Prelude.{Option, Some, None, Bool, true, false, cond, not, ◌&&◌, ◌||◌, List, [], ◌∷◌, ℕ, ◌*◌, ◌/◌, ◌%◌, ◌^◌, eqb, leb, ltb, length, get_or, ℤ, pos}
 use Rattle.numbers.specs.declared.Owner.{Owner}
-use Rattle.numbers.specs.declared.Owner.TheVariants.{Domain, Private, Nobody}
+use Rattle.numbers.specs.declared.Owner.TheVariants.{Domain, Private}
 use Rattle.numbers.specs.Numbers.{clocks, what_is}
 use Rattle.whole.specs.Pairs.{Pair}
 use Rattle.paths.specs.Paths.{Net}
@@ -22,23 +22,23 @@ abbrev pub world_of : List ℕ → List ℤ → List ℕ → List ℤ → ℕ �
 world_of fs xs gs ys machines files pinned trace = record { machines = machines; files = files; pinned = pinned; trace = trace; links = links_of fs xs gs ys }
 
 -- what clock c is
-abbrev pub owner : ℕ → Owner
+abbrev pub owner : ℕ → Option Owner
 owner c = what_is (record { 0 = c })
 
 -- one domain of two different machines, or for graph 2 the domain REALTIME, 1
-unfoldable pub domains : ℕ → ℕ → Owner → Owner → Bool
-domains g machines (Domain d m) (Domain e n) =
+unfoldable pub domains : ℕ → ℕ → Option Owner → Option Owner → Bool
+domains g machines (Some (Domain d m)) (Some (Domain e n)) =
     eqb d e && (leb 3 g || eqb d 1) && not (eqb m.0 n.0) && ltb m.0 machines && ltb n.0 machines
-domains g machines (Domain d m) (Private f) = false
-domains g machines (Domain d m) Nobody = false
-domains g machines (Private f) o = false
-domains g machines Nobody o = false
+domains g machines (Some (Domain d m)) (Some (Private f)) = false
+domains g machines (Some (Domain d m)) None = false
+domains g machines (Some (Private f)) o = false
+domains g machines None o = false
 
 -- a listed file's private clock, and the file isn't pinned
-unfoldable pub loose : ℕ → ℕ → Owner → Bool
-loose files pinned (Private f) = ltb f.0 files && eqb (pinned / 2 ^ f.0 % 2) 0
-loose files pinned (Domain d m) = false
-loose files pinned Nobody = false
+unfoldable pub loose : ℕ → ℕ → Option Owner → Bool
+loose files pinned (Some (Private f)) = ltb f.0 files && eqb (pinned / 2 ^ f.0 % 2) 0
+loose files pinned (Some (Domain d m)) = false
+loose files pinned None = false
 
 -- trace time, and the private clock of a listed file that isn't pinned, its own clock apart
 unfoldable pub to_trace : World → ℕ → ℕ → Bool

@@ -5,50 +5,32 @@ ghost use Rattle.std.specs.Prelude.{◌≡◌, [], ◌&&◌, ◌||◌, ◌+◌, 
 ghost use Rattle.numbers.specs.Numbers.{clocks};
 ghost use Rattle.graphs.specs.Links.{links_of};
 ghost use Rattle.graphs.specs.Graphs.{world_of, guess as guessed, linked, marked};
-ghost use Rattle.graphs.specs.laws.Matrix.{Marks, joins, Smaller};
+ghost use Rattle.graphs.specs.laws.Matrix.{Marks, joins};
 ghost use Rattle.graphs.specs.laws.Added.{Added};
 ghost use Rattle.graphs.specs.laws.Guesses.{Row, Part, Free};
 
 // A byte for each two clocks.
 const CELLS: usize = numbers::CLOCKS * numbers::CLOCKS;
 
-// The smaller of two counts.
-fn smaller(p: usize, q: usize) -> usize
-    ensures { Smaller p q result }
-{
-    if p < q { p } else { q }
-}
-
 // How many correspondences four lists make: as far as all four go.
 pub fn count<'a>(a: &'a [u16], x: &'a [i64], b: &'a [u16], y: &'a [i64]) -> usize
     ensures { result ≡ length (links_of a.now x.now b.now y.now) }
 {
-    let p = smaller(a.len(), x.len());
-    let q = smaller(b.len(), y.len());
-    smaller(p, q)
+    a.len().min(x.len()).min(b.len()).min(y.len())
 }
 
 // Whether graph g guesses that a domain reads the same on all machines: REALTIME from graph 2 on, the others in graph 3.
 fn is_guessed(g: u8, d: u8) -> bool
     ensures { result ≡ (leb 3 g || eqb d 1) }
 {
-    if 3 <= g {
-        return true;
-    }
-    d == 1
+    3 <= g || d == 1
 }
 
 // Whether file f is listed and not pinned.
 fn is_free(files: u8, pinned: u32, f: u8) -> bool
     ensures { result ≡ (ltb f files && eqb (pinned / 2 ^ f % 2) 0) }
 {
-    if files <= f {
-        return false;
-    }
-    if 31 < f {
-        return true;
-    }
-    (pinned >> f) % 2 == 0
+    f < files && (31 < f || (pinned >> f) % 2 == 0)
 }
 
 // Joins two clocks, in both directions; what is no clock is left out.
@@ -56,16 +38,12 @@ fn join(matrix: &mut [u8], c: u16, d: u16)
     requires { length matrix.old ≡ clocks * clocks }
     ensures { Marks (joins c d) matrix.old matrix.new }
 {
-    let e = c as usize;
-    let f = d as usize;
-    if numbers::CLOCKS <= e {
-        return;
+    let e = usize::from(c);
+    let f = usize::from(d);
+    if e < numbers::CLOCKS && f < numbers::CLOCKS {
+        matrix[e * numbers::CLOCKS + f] = 1;
+        matrix[f * numbers::CLOCKS + e] = 1;
     }
-    if numbers::CLOCKS <= f {
-        return;
-    }
-    matrix[e * numbers::CLOCKS + f] = 1;
-    matrix[f * numbers::CLOCKS + e] = 1;
 }
 
 // Joins domain d of machine m to that of each machine before it.
@@ -74,11 +52,9 @@ fn join_row(d: u8, m: u8, matrix: &mut [u8])
     ensures { Added (Row d m m) matrix.old matrix.new }
 {
     let p = numbers::domain_clock(d, numbers::Machine(m));
-    let mut n: u8 = 0;
-    while n < m {
+    for n in 0..m {
         let q = numbers::domain_clock(d, numbers::Machine(n));
         join(matrix, p.0, q.0);
-        n += 1;
     }
 }
 
@@ -87,10 +63,9 @@ fn join_domain(g: u8, d: u8, m: u8, matrix: &mut [u8])
     requires { (length matrix.old ≡ clocks * clocks) × (1 ≤ d) × (d ≤ 6) }
     ensures { Added (Part g (6 * m + d - 1) (6 * m + d)) matrix.old matrix.new }
 {
-    if !is_guessed(g, d) {
-        return;
+    if is_guessed(g, d) {
+        join_row(d, m, matrix);
     }
-    join_row(d, m, matrix);
 }
 
 // The same of each domain.
@@ -98,10 +73,8 @@ fn join_machine(g: u8, m: u8, matrix: &mut [u8])
     requires { length matrix.old ≡ clocks * clocks }
     ensures { Added (Part g (6 * m) (6 * m + 6)) matrix.old matrix.new }
 {
-    let mut d: u8 = 1;
-    while d < 7 {
+    for d in 1..7 {
         join_domain(g, d, m, matrix);
-        d += 1;
     }
 }
 
@@ -110,10 +83,8 @@ fn join_machines(g: u8, machines: u8, matrix: &mut [u8])
     requires { length matrix.old ≡ clocks * clocks }
     ensures { Added (Part g 0 (6 * machines)) matrix.old matrix.new }
 {
-    let mut m: u8 = 0;
-    while m < machines {
+    for m in 0..machines {
         join_machine(g, m, matrix);
-        m += 1;
     }
 }
 
@@ -122,14 +93,10 @@ fn join_file(files: u8, pinned: u32, trace: u16, f: u8, matrix: &mut [u8])
     requires { (length matrix.old ≡ clocks * clocks) × (f < files) }
     ensures { Added (Free pinned trace f (f + 1)) matrix.old matrix.new }
 {
-    if !is_free(files, pinned, f) {
-        return;
-    }
     let d = numbers::private_clock(numbers::File(f)).0;
-    if d == trace {
-        return;
+    if is_free(files, pinned, f) && d != trace {
+        join(matrix, trace, d);
     }
-    join(matrix, trace, d);
 }
 
 // The same of each file.
@@ -137,10 +104,8 @@ fn join_files(files: u8, pinned: u32, trace: u16, matrix: &mut [u8])
     requires { length matrix.old ≡ clocks * clocks }
     ensures { Added (Free pinned trace 0 files) matrix.old matrix.new }
 {
-    let mut f: u8 = 0;
-    while f < files {
+    for f in 0..files {
         join_file(files, pinned, trace, f, matrix);
-        f += 1;
     }
 }
 
@@ -164,11 +129,8 @@ fn join_links<'a>(a: &'a [u16], x: &'a [i64], b: &'a [u16], y: &'a [i64], matrix
     requires { length matrix.old ≡ clocks * clocks }
     ensures { Marks (linked (links_of a.now x.now b.now y.now)) matrix.old matrix.new }
 {
-    let n = count(a, x, b, y);
-    let mut k: usize = 0;
-    while k < n {
+    for k in 0..count(a, x, b, y) {
         join(matrix, a[k], b[k]);
-        k += 1;
     }
 }
 
@@ -176,7 +138,7 @@ fn join_links<'a>(a: &'a [u16], x: &'a [i64], b: &'a [u16], y: &'a [i64], matrix
 pub fn start<'a>(a: &'a [u16], x: &'a [i64], b: &'a [u16], y: &'a [i64], matrix: &mut [u8])
     ensures { matrix.new ≡ marked (linked (links_of a.now x.now b.now y.now)) (replicate (length matrix.old) 0) }
 {
-    zeros::bytes(matrix);
+    matrix.fill(0);
     if matrix.len() != CELLS {
         return;
     }

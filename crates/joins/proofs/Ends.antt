@@ -16,14 +16,15 @@ use Rattle.sheet.specs.Sheets.{Out, records, read_of}
 use Rattle.sheet.specs.Lists.{sources_of}
 use Rattle.sheet.specs.Accepted.{Accepted, accepted}
 use Rattle.sheet.specs.declared.Table.{Table}
-use Rattle.sheet.specs.declared.Sheet.TheVariants.{Refused}
+use Rattle.sheet.specs.Sheets.{Refused}
 use Rattle.index.specs.Index.{manifest_of}
 use Rattle.reader.specs.Reader.{table_of, lookups_of, meaning_by}
 use Rattle.reader.specs.Theorems.{table_means}
 use Rattle.merged.specs.Facts.{Parts, parts_of, Facts, source_fact, facts_of}
 use Rattle.merged.specs.Machines.{machine_count, machine_of, machines_of}
 use Rattle.merged.specs.Refusals.{checks, first_of}
-use Rattle.merged.specs.Merged.{records_of, Room, roomy, refused_by, accepted_by, refusal_joined, joined, merged_with, merged}
+use Rattle.merged.specs.declared.Room.{Room}
+use Rattle.merged.specs.Merged.{records_of, roomy, refused_by, accepted_by, refusal_joined, joined, merged_with, merged}
 use Rattle.merged.proofs.laws.Lists.{length_map, padded_below, padded_past}
 use Rattle.merged.proofs.laws.Sheets.{refused_so, Listing, listed_so}
 use Rattle.checks.specs.Table.{facts_by}

@@ -27,8 +27,9 @@ use Rattle.merged.specs.Facts.{Filed, filed, parts_of, Facts, file_facts, facts_
 use Rattle.merged.specs.Machines.{machine_count, machines_of}
 use Rattle.merged.specs.Refusals.{checks, first_of, is_pinned}
 use Rattle.merged.specs.Timeline.{bits_of, link_from, link_of, event_clock, trace_by, trace_of, world_of}
-use Rattle.merged.specs.declared.Answer.TheVariants.{Merged}
-use Rattle.merged.specs.Merged.{records_of, Room, padded, answers_in, accepted_by}
+use Rattle.merged.specs.Answers.{Merged}
+use Rattle.merged.specs.declared.Room.{Room}
+use Rattle.merged.specs.Merged.{records_of, padded, answers_in, accepted_by}
 use Rattle.merged.proofs.laws.Lists.{length_map}
 use Rattle.merged.proofs.laws.Shape.{many_refused, few_names}
 use Rattle.checks.specs.Table.{facts_by}

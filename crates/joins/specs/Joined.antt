@@ -7,17 +7,17 @@ use Rattle.manifest.specs.Manifest.{refusal_of}
 use Rattle.records.specs.declared.Event.{Event}
 use Rattle.sheet.specs.Sheets.{read_of}
 use Rattle.sheet.specs.declared.Table.{Table}
-use Rattle.sheet.specs.declared.Sheet.TheVariants.{Listed}
+use Rattle.sheet.specs.Sheets.{Listed}
 use Rattle.reader.specs.Reader.{table_of, lookups_of}
 use Rattle.meant.specs.Meant.{timeline_of}
 use Rattle.graphs.specs.Graphs.{World}
-use Rattle.clocks.specs.declared.Answer.{Answer as EventAnswer}
-use Rattle.clocks.specs.Answers.{answers_of, time_of, kind_of, steps_of}
-use Rattle.merged.specs.declared.Answer.TheVariants.{Merged}
+use Rattle.clocks.specs.Answers.{Answer as EventAnswer, answers_of, time_of, kind_of, steps_of}
+use Rattle.merged.specs.Answers.{Merged}
 use Rattle.merged.specs.Machines.{machine_count, machines_of}
 use Rattle.merged.specs.Refusals.{is_pinned}
 use Rattle.merged.specs.Timeline.{bits_of, trace_by, trace_of}
-use Rattle.merged.specs.Merged.{Room, padded, Outcome}
+use Rattle.merged.specs.declared.Room.{Room}
+use Rattle.merged.specs.Merged.{padded, Outcome}
 use Rattle.checks.specs.Table.{facts_by}
 use Rattle.checks.specs.Machines.{machine_table}
 use Rattle.gather.specs.Gathered.{gathered}

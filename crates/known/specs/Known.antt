@@ -4,8 +4,7 @@ use Rattle.text.specs.Reading.{Text, pick}
 use Rattle.manifest.specs.Manifest.{refusal_of}
 use Rattle.sheet.specs.Sheets.{read_of}
 use Rattle.sheet.specs.declared.Table.{Table}
-use Rattle.sheet.specs.declared.Sheet.{Sheet}
-use Rattle.sheet.specs.declared.Sheet.TheVariants.{Refused as SheetRefused, Listed}
+use Rattle.sheet.specs.Sheets.{Sheet, Refused as SheetRefused, Listed}
 use Rattle.reader.specs.Reader.{table_of, lookups_of}
 use Rattle.meant.specs.Meant.{timeline_of}
 use Rattle.graphs.specs.Links.{Link}
@@ -17,8 +16,7 @@ use Rattle.checks.specs.Machines.{machine_table}
 use Rattle.gather.specs.Gathered.{gathered}
 use Rattle.lines.specs.Lines.{links_by}
 use Rattle.placed.specs.declared.Given.{Given}
-use Rattle.placed.specs.declared.Told.{Told}
-use Rattle.placed.specs.declared.Told.TheVariants.{Refused, Accepted}
+use Rattle.placed.specs.Told.{Told, Refused, Accepted}
 
 -- where a sheet's records lie; nowhere in a refused sheet
 unfoldable pub table_in : Sheet → Table

@@ -7,12 +7,10 @@ use Rattle.text.specs.Reading.{Text}
 use Rattle.manifest.specs.Manifest.{refusal_of}
 use Rattle.sheet.specs.Sheets.{read_of}
 use Rattle.sheet.specs.declared.Table.{Table}
-use Rattle.sheet.specs.declared.Sheet.{Sheet}
-use Rattle.sheet.specs.declared.Sheet.TheVariants.{Refused as SheetRefused, Listed}
+use Rattle.sheet.specs.Sheets.{Sheet, Refused as SheetRefused, Listed}
 use Rattle.merged.specs.Refusals.{checks, first_of}
 use Rattle.checks.specs.Table.{facts_by}
-use Rattle.placed.specs.declared.Told.{Told}
-use Rattle.placed.specs.declared.Told.TheVariants.{Refused, Accepted}
+use Rattle.placed.specs.Told.{Told, Refused, Accepted}
 use Rattle.known.specs.Known.{verdict, fact_table, given_in, told}
 use Rattle.known.specs.laws.Verdicts.{by_manifest, by_sheet, by_both, by_none}
 

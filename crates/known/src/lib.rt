@@ -3,35 +3,36 @@
 
 ghost use Rattle.std.specs.Prelude.{◌≡◌, map, ◌<◌, min, pos, length};
 ghost use Rattle.merged.specs.Merged.{padded};
+ghost use Rattle.refusals.specs.Refusals.{refused};
+ghost use Rattle.placed.specs.Told.{as_told};
+ghost use Rattle.sheet.specs.Sheets.{told as sheet_told};
 ghost use Rattle.known.specs.Known.{table_in, verdict, given_by, fact_table, links_in, told};
 ghost use Rattle.known.specs.laws.Drawn.{Drawn};
 
-use placed::{Given, Known, Told};
-use sheet::{Run, Sheet, Table};
+use placed::{Given, Known};
+use refusals::Refusal;
+use sheet::{Run, Table};
+
+mod numbered;
 
 // A number as a byte, or the largest byte where it is larger.
 fn byte(n: usize) -> u8
     ensures { result ≡ min 255 n }
 {
-    if n < 255 { n as u8 } else { 255 }
+    n.min(255) as u8
 }
 
 // Where a sheet's records lie; nowhere in a refused sheet.
-fn table_in(sheet: Sheet) -> Table
-    ensures { result ≡ table_in sheet }
+fn table_in(sheet: Result<Table, Refusal>) -> Table
+    ensures { result ≡ table_in (sheet_told sheet) }
 {
-    match sheet {
-        Sheet::Refused(_k) => {
-            let none = Run { count: 0, at: 0 };
-            Table {
-                files: 0,
-                sources: none,
-                snapshots: none,
-                events: none,
-            }
-        }
-        Sheet::Listed(table) => table,
-    }
+    const NONE: Run = Run { count: 0, at: 0 };
+    sheet.unwrap_or(Table {
+        files: 0,
+        sources: NONE,
+        snapshots: NONE,
+        events: NONE,
+    })
 }
 
 // The correspondences of the manifest's entries and the sheet's snapshots.
@@ -72,42 +73,34 @@ fn give(
     let count = checks::machines(t, &mut each);
     let asked = meant::timeline(s, ix, lookups);
     let trace = traced::clock(t, asked);
-    let run = table.events;
-    let machines = byte(count);
-    let files = byte(table.files);
     Given {
-        links: links,
-        events: run.count,
-        machines: machines,
-        files: files,
+        links,
+        events: table.events.count,
+        machines: byte(count),
+        files: byte(table.files),
         pinned: traced::pinned(t),
-        trace: trace,
+        trace,
     }
 }
 
 // The first refusal: the manifest's, the sheet's, or that of both together.
-fn tell(manifest: u8, sheet: Sheet, both: u8, given: Given) -> Told
-    requires { (table_in sheet).events.at < 4294967296 }
-    ensures { result ≡ verdict manifest sheet both given }
+fn tell(
+    manifest: Result<(), Refusal>,
+    sheet: Result<Table, Refusal>,
+    both: Result<(), Refusal>,
+    given: Given,
+) -> Result<Known, Refusal>
+    requires { (table_in (sheet_told sheet)).events.at < 4294967296 }
+    ensures { as_told result ≡ verdict (refused manifest) (sheet_told sheet) (refused both) given }
 {
-    if manifest != 0 {
-        return Told::Refused(manifest);
-    }
-    match sheet {
-        Sheet::Refused(k) => Told::Refused(k),
-        Sheet::Listed(table) => {
-            if both != 0 {
-                return Told::Refused(both);
-            }
-            let sources = table.sources;
-            let events = table.events;
-            Told::Accepted(Known {
-                sources: sources.count,
-                at: events.at as u32,
-                given: given,
-            })
-        }
-    }
+    manifest?;
+    let table = sheet?;
+    both?;
+    Ok(Known {
+        sources: table.sources.count,
+        at: table.events.at as u32,
+        given,
+    })
 }
 
 // Reads both: `t` then holds what is known of the sheet's files and sources, and where clock a[k] reads x[k], clock c[k] reads y[k]. At a
@@ -120,8 +113,8 @@ pub fn read(
     x: &mut [i64; 288],
     c: &mut [u16; 288],
     y: &mut [i64; 288],
-) -> Told
-    ensures told { result ≡ told s.now b.now }
+) -> Result<Known, Refusal>
+    ensures told { as_told result ≡ told s.now b.now }
     ensures facts { t.new ≡ fact_table s.now b.now }
     ensures from { a.new ≡ padded 0 288 (map (λ l. l.a) (links_in s.now b.now)) }
     ensures reads { x.new ≡ padded (pos 0) 288 (map (λ l. l.x) (links_in s.now b.now)) }
@@ -130,12 +123,11 @@ pub fn read(
 {
     let mut ix: [usize; 2470] = [0; 2470];
     let mut lookups: [usize; 129] = [0; 129];
-    let manifest = reader::read(s, &mut ix, &mut lookups);
+    let manifest = numbered::judged(reader::read(s, &mut ix, &mut lookups));
     let sheet = gather::gather(s, &ix, &lookups, b, t);
     let both = checks::refusal(t);
     let table = table_in(sheet);
-    let run = table.snapshots;
-    let n = draw(s, &ix, &lookups, t, b, run, a, x, c, y);
+    let n = draw(s, &ix, &lookups, t, b, table.snapshots, a, x, c, y);
     let given = give(s, &ix, &lookups, t, table, n);
     tell(manifest, sheet, both, given)
 }

@@ -15,7 +15,7 @@ use Rattle.records.specs.declared.Event.{Event}
 use Rattle.sheet.specs.Lists.{snapshots_of, events_of}
 use Rattle.sheet.specs.Sheets.{records, table_of}
 use Rattle.sheet.specs.Accepted.{snapshot_of_lem, event_of}
-use Rattle.index.specs.Index.{listed, entries_in}
+use Rattle.index.specs.Index.{entries_in}
 use Rattle.finds.specs.Finds.{lookups}
 use Rattle.meant.specs.Meant as meant
 use Rattle.meant.specs.Told.{Tells}

@@ -1,7 +1,7 @@
 -- The marked examples of document 01, all of them, proved together as one statement over a list; with them the two unmarked ones that stand between them,
 -- and drop 2 in a merge. Each comes from its computation in laws/. Assumes nothing.
 use Rattle.std.specs.Prelude.{List, [], ◌∷◌, ℕ, pos}
-use Rattle.merged.specs.Merged.{Room}
+use Rattle.merged.specs.declared.Room.{Room}
 use Rattle.marked.specs.Inputs.{no_manifest, example, on_the_phone, eight_less, too_low, lowest, no_bytes, sheet_00, sheet_7, sheet_past, pair, two_pairs, top, bottom}
 use Rattle.marked.specs.Example.{Example, refuses_manifest, refuses_sheet, accepts, reads, goes, drops, forwards, backwards, outside, LongEnough, holds, All, none, also}
 use Rattle.marked.proofs.laws.Conversions.{at_150, at_199, at_200, at_50, back_1105, both_ends, past_the_top}

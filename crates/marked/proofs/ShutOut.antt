@@ -10,8 +10,9 @@ use Rattle.records.specs.Layout.{Record}
 use Rattle.sheet.specs.Lists.{events_of}
 use Rattle.sheet.specs.Sheets.{records}
 use Rattle.merged.specs.declared.Summary.{Summary}
-use Rattle.merged.specs.declared.Answer.TheVariants.{Refused, Merged}
-use Rattle.merged.specs.Merged.{records_of, Room, Outcome, merged}
+use Rattle.merged.specs.Answers.{Refused, Merged}
+use Rattle.merged.specs.declared.Room.{Room}
+use Rattle.merged.specs.Merged.{records_of, Outcome, merged}
 use Rattle.merged.proofs.Demands.{Meets}
 use Rattle.marked.specs.Inputs.{no_manifest, example, on_the_phone, no_bytes, sheet_7, sheet_7_9}
 use Rattle.marked.specs.Example.{Written, OnPath, no_event}

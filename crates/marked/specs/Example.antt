@@ -1,22 +1,20 @@
 -- What an example of document 01 says: of a merge, for every lent memory that is long enough, or of a conversion. Assumes nothing.
-use Rattle.std.specs.Prelude.{◌≡◌, Bool, true, List, [], ◌∷◌, ℕ, ◌+◌, ℤ, pos, get_or, replicate}
+use Rattle.std.specs.Prelude.{◌≡◌, Bool, true, List, [], ◌∷◌, ℕ, ◌+◌, ℤ, pos, get_or, replicate, None, Some}
 use Rattle.text.specs.Reading.{Text}
-use Rattle.whole.specs.declared.Sum.TheVariants.{In}
 use Rattle.whole.specs.Pairs.{Pair, converted, converted_back}
 use Rattle.records.specs.declared.Event.{Event}
 use Rattle.sheet.specs.Lists.{events_of}
 use Rattle.sheet.specs.Sheets.{Out, refused, records}
-use Rattle.clocks.specs.declared.Answer.TheVariants.{Dropped}
-use Rattle.clocks.specs.Answers.{ended}
+use Rattle.clocks.specs.Answers.{Dropped, ended}
 use Rattle.clocks.specs.laws.Chains.{Chosen}
 use Rattle.manifest.specs.Meaning.{Meaning}
 use Rattle.manifest.specs.Manifest.{refusal_of, meaning_of}
-use Rattle.merged.specs.declared.Trace.TheVariants.{Nothing}
 use Rattle.merged.specs.declared.Summary.{Summary}
-use Rattle.merged.specs.declared.Answer.TheVariants.{Merged}
+use Rattle.merged.specs.Answers.{Merged}
 use Rattle.merged.specs.Facts.{parts_of, facts_of}
 use Rattle.merged.specs.Timeline.{event_clock, world_of}
-use Rattle.merged.specs.Merged.{records_of, Room, roomy, Outcome, refused_by, merged}
+use Rattle.merged.specs.declared.Room.{Room}
+use Rattle.merged.specs.Merged.{records_of, roomy, Outcome, refused_by, merged}
 
 -- ---- the kinds of example; those of a merge begin with the manifest's bytes, or the sheet's, or both
 
@@ -67,7 +65,7 @@ OnPath w (records rs) k c g p =
 abbrev pub nothing_in_it : Room → Outcome
 nothing_in_it room =
     record {
-      answer = Merged (record { files = 0; machines = 1; events = 0; trace = Nothing });
+      answer = Merged (record { files = 0; machines = 1; events = 0; trace = None });
       machines = replicate room.machines 0;
       times = replicate room.times (pos 0);
       kinds = replicate room.kinds 0;
@@ -81,8 +79,8 @@ holds (accepts m b s) = (room : Room) → LongEnough b room → (merged m b room
 holds (reads m b) = (room : Room) → LongEnough b room → merged m b room ≡ nothing_in_it room
 holds (goes m b k c p t g n) = OnPath (meaning_of m) (records_of b) k c g p × ((room : Room) → LongEnough b room → Written (merged m b room) k t g n)
 holds (drops m b k d) = (room : Room) → LongEnough b room → Written (merged m b room) k (pos 0) (3 + d) 0
-holds (forwards ps t u) = converted t ps ≡ In u
-holds (backwards ps u t) = converted_back u ps ≡ In t
+holds (forwards ps t u) = converted t ps ≡ Some u
+holds (backwards ps u t) = converted_back u ps ≡ Some t
 holds (outside ps t d) = (graph steps : ℕ) → ended graph steps (converted t ps) ≡ Dropped d
 
 -- of each of a list

@@ -1,6 +1,6 @@
 -- The memories that the caller lends. Assumes nothing.
 use Rattle.std.specs.Prelude.{List, ℕ, ℤ, length}
-use Rattle.merged.specs.Merged.{Room}
+use Rattle.merged.specs.declared.Room.{Room}
 
 -- how long they are
 abbrev pub room_of : List ℕ → List ℤ → List ℕ → List ℕ → List ℕ → List ℤ → List ℕ → Room

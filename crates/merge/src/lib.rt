@@ -2,10 +2,12 @@
 #![tactic(auto)]
 
 ghost use Rattle.std.specs.Prelude.{◌≡◌, pos, length, replicate};
+ghost use Rattle.merged.specs.Answers.{told};
 ghost use Rattle.merged.specs.Merged.{merged};
 ghost use Rattle.merge.specs.Memories.{room_of};
 
-use merged::Answer;
+use merged::{Room, Summary};
+use refusals::Refusal;
 
 // The most correspondences that count: 32 entries and 256 snapshots.
 const LINKS: usize = 288;
@@ -23,8 +25,8 @@ pub fn merge(
     matrix: &mut [u8],
     readings: &mut [i64],
     clocks: &mut [u16],
-) -> Answer
-    ensures answer { result ≡ (merged manifest.now sheet.now (room_of machines.old times.old kinds.old steps.old matrix.old readings.old clocks.old)).answer }
+) -> Result<Summary, Refusal>
+    ensures answer { told result ≡ (merged manifest.now sheet.now (room_of machines.old times.old kinds.old steps.old matrix.old readings.old clocks.old)).answer }
     ensures machines { machines.new ≡ (merged manifest.now sheet.now (room_of machines.old times.old kinds.old steps.old matrix.old readings.old clocks.old)).machines }
     ensures times { times.new ≡ (merged manifest.now sheet.now (room_of machines.old times.old kinds.old steps.old matrix.old readings.old clocks.old)).times }
     ensures kinds { kinds.new ≡ (merged manifest.now sheet.now (room_of machines.old times.old kinds.old steps.old matrix.old readings.old clocks.old)).kinds }
@@ -38,17 +40,17 @@ pub fn merge(
     let mut x = [0i64; LINKS];
     let mut c = [0u16; LINKS];
     let mut y = [0i64; LINKS];
-    let told = known::read(manifest, sheet, &mut t, &mut a, &mut x, &mut c, &mut y);
-    let found = settled::fitted(
-        told,
-        machines.len(),
-        times.len(),
-        kinds.len(),
-        steps.len(),
-        matrix.len(),
-        readings.len(),
-        clocks.len(),
-    );
+    let room = Room {
+        machines: machines.len(),
+        times: times.len(),
+        kinds: kinds.len(),
+        steps: steps.len(),
+        matrix: matrix.len(),
+        readings: readings.len(),
+        clocks: clocks.len(),
+    };
+    let both = known::read(manifest, sheet, &mut t, &mut a, &mut x, &mut c, &mut y);
+    let found = settled::fitted(both, room);
     settled::settle(
         found, &t, sheet, &a, &x, &c, &y, machines, times, kinds, steps, matrix, readings, clocks,
     )

@@ -17,12 +17,10 @@ use Rattle.sheet.specs.Sheets.{Out, refused, records}
 use Rattle.records.specs.declared.Event.{Event}
 use Rattle.paths.specs.Paths.{Leads}
 use Rattle.graphs.specs.Graphs.{graph}
-use Rattle.clocks.specs.declared.Answer.{Answer as EventAnswer}
-use Rattle.clocks.specs.declared.Answer.TheVariants.{Dropped}
-use Rattle.clocks.specs.Answers.{answer_of, time_of, kind_of, steps_of, unrelated}
+use Rattle.clocks.specs.Answers.{Answer as EventAnswer, Dropped, answer_of, time_of, kind_of, steps_of, unrelated}
 use Rattle.clocks.specs.Theorems.{unrelated_no_chain, no_chain_unrelated}
 use Rattle.merged.specs.declared.Summary.{Summary}
-use Rattle.merged.specs.declared.Answer.TheVariants.{Refused, Merged}
+use Rattle.merged.specs.Answers.{Refused, Merged}
 use Rattle.merged.specs.Facts.{Parts, parts_of, no_source, source_fact, facts_of}
 use Rattle.merged.specs.Machines.{machine_of, machines_of}
 use Rattle.merged.specs.Timeline.{event_clock, world_of}

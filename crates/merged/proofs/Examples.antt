@@ -1,5 +1,5 @@
 -- Worked examples. Assumes nothing.
-use Rattle.std.specs.Prelude.{◌≡◌, refl, [], ◌∷◌, pos, replicate}
+use Rattle.std.specs.Prelude.{◌≡◌, refl, [], ◌∷◌, pos, replicate, None}
 use Rattle.std.proofs.Common.{ap}
 use Rattle.text.specs.Reading.{pick}
 use Rattle.bits.specs.Bits.{number}
@@ -17,8 +17,7 @@ use Rattle.sheet.specs.Lists.{files_of, paths_of, sources_of, snapshots_of, even
 use Rattle.sheet.specs.Twice.{among, repeats, same_bytes, again}
 use Rattle.sheet.specs.Sheets.{records_from, sheet_of}
 use Rattle.clocks.specs.Answers.{answers_of}
-use Rattle.merged.specs.declared.Trace.TheVariants.{Nothing}
-use Rattle.merged.specs.declared.Answer.TheVariants.{Merged}
+use Rattle.merged.specs.Answers.{Merged}
 use Rattle.merged.specs.Facts.{facts_of, file_facts}
 use Rattle.merged.specs.Machines.{distinct, ids_by, unnamed, machine_count, machines_of}
 use Rattle.merged.specs.Refusals.{unused, first_of, refusal_32_path_not_in_sheet, refusal_33_clocks_on_a_container, refusal_34_id_not_declared, refusal_35_machine_on_several_sources, refusal_36_pinned_file_with_a_snapshot, refusal_37_too_many_machines}
@@ -37,7 +36,7 @@ no_manifest = refl
 -- "Sheet `00` with no manifest: accepted, nothing in it"
 nothing_in_it : merged [] (0x00 ∷ []) room
     ≡ record {
-      answer = Merged (record { files = 0; machines = 1; events = 0; trace = Nothing });
+      answer = Merged (record { files = 0; machines = 1; events = 0; trace = None });
       machines = replicate 4 0;
       times = replicate 2 (pos 0);
       kinds = replicate 2 0;

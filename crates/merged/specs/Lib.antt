@@ -4,4 +4,5 @@ pub mod Facts
 pub mod Machines
 pub mod Refusals
 pub mod Timeline
+pub mod Answers
 pub mod Merged

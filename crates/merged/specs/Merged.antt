@@ -6,10 +6,9 @@ use Rattle.manifest.specs.Meaning.{Meaning}
 use Rattle.manifest.specs.Manifest.{refusal_of, meaning_of}
 use Rattle.sheet.specs.Twice.{again}
 use Rattle.sheet.specs.Sheets.{Out, refused, records, sheet_of, size_wrong}
-use Rattle.clocks.specs.declared.Answer.{Answer as EventAnswer}
-use Rattle.clocks.specs.Answers.{answers_of, time_of, kind_of, steps_of}
-use Rattle.merged.specs.declared.Answer.{Answer}
-use Rattle.merged.specs.declared.Answer.TheVariants.{Refused, Merged}
+use Rattle.clocks.specs.Answers.{Answer as EventAnswer, answers_of, time_of, kind_of, steps_of}
+pub use Rattle.merged.specs.declared.Room.{Room}
+use Rattle.merged.specs.Answers.{Answer, Refused, Merged}
 use Rattle.merged.specs.Facts.{Parts, parts_of, facts_of}
 use Rattle.merged.specs.Machines.{machines_of, machine_count}
 use Rattle.merged.specs.Refusals.{checks, first_of}
@@ -25,17 +24,6 @@ unfoldable pub records_of : List ℕ → Out
 records_of b = pick (size_wrong b) (refused 25) (once (sheet_of b))
 
 -- ---- the lent memories
-
--- how long each is: of the outputs a byte for each source, and for each event its time, kind and steps; of the work memories the matrix, and for each
--- event its reading and its clock
-pub record Room : Type 0 where
-  pub machines : ℕ
-  pub times : ℕ
-  pub kinds : ℕ
-  pub steps : ℕ
-  pub matrix : ℕ
-  pub readings : ℕ
-  pub clocks : ℕ
 
 -- 38: lent memory shorter than docs/MEMORY.md fixes from the counts
 unfoldable pub roomy : Parts → Room → Bool

@@ -1,6 +1,7 @@
 -- Clocks, correspondences and trace time. Assumes nothing.
-use Rattle.std.specs.Prelude.{Bool, false, not, ◌&&◌, ◌||◌, List, [], ◌∷◌, ◌++◌, map, ℕ, ◌+◌, ◌*◌, eqb, ltb, pos, length, get_or}
+use Rattle.std.specs.Prelude.{Bool, false, not, ◌&&◌, ◌||◌, List, [], ◌∷◌, ◌++◌, map, ℕ, ◌+◌, ◌*◌, eqb, ltb, pos, length, get_or, Option, None, Some}
 use Rattle.text.specs.Reading.{pick}
+use Rattle.numbers.specs.declared.Clock.{Clock}
 use Rattle.numbers.specs.Numbers.{clock_of, private_of}
 use Rattle.manifest.specs.declared.Cited.{Cited}
 use Rattle.manifest.specs.declared.Cited.TheVariants.{Private, Domain}
@@ -14,8 +15,6 @@ use Rattle.records.specs.declared.Snapshot.{Snapshot}
 use Rattle.records.specs.declared.Event.{Event}
 use Rattle.graphs.specs.Links.{Link}
 use Rattle.graphs.specs.Graphs.{World}
-use Rattle.merged.specs.declared.Trace.{Trace}
-use Rattle.merged.specs.declared.Trace.TheVariants.{Nothing, On}
 use Rattle.merged.specs.Facts.{Parts, untied, silent, FileFact, SourceFact, Facts, facts_of}
 use Rattle.merged.specs.Machines.{machine_count, machine_of}
 use Rattle.merged.specs.Refusals.{listed_by, is_pinned}
@@ -79,8 +78,8 @@ module _ (k : Facts) where
   trace_by Unset = claimed (first_or (length k.files) claims k.files 0)
 
   -- "A sheet without files has no trace time, whatever the manifest says"
-  unfoldable pub trace_of : Asked → Trace
-  trace_of asked = pick (eqb (length k.files) 0) Nothing (On (record { 0 = trace_by asked }))
+  unfoldable pub trace_of : Asked → Option Clock
+  trace_of asked = pick (eqb (length k.files) 0) None (Some (record { 0 = trace_by asked }))
 
 -- all that the graphs are made of
 unfoldable pub world_of : Meaning → Parts → World

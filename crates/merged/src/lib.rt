@@ -1,27 +1,26 @@
-// What a merge answers: the kinds of answer. The definition of the merge stands in specs/.
+// What an accepted merge counts, and how much memory a caller lends. The definition of the merge stands in specs/.
 #![tactic(auto)]
 
 use numbers::Clock;
 
-// The trace-time clock; none for a sheet without files.
-#[derive(Clone, Copy)]
-pub enum Trace {
-    Nothing,
-    On(Clock),
-}
-
-// What an accepted merge counts: files, machines and events, and the trace-time clock.
+// Files, machines and events, and the trace-time clock: none for a sheet without files.
 #[derive(Clone, Copy)]
 pub struct Summary {
     pub files: u8,
     pub machines: u8,
     pub events: usize,
-    pub trace: Trace,
+    pub trace: Option<Clock>,
 }
 
-// What a merge answers.
+// How long the lent memories are: of the outputs a byte for each source, and for each event its time, kind and steps; of the work memories the
+// matrix, and for each event its reading and its clock.
 #[derive(Clone, Copy)]
-pub enum Answer {
-    Refused(u8),
-    Merged(Summary),
+pub struct Room {
+    pub machines: usize,
+    pub times: usize,
+    pub kinds: usize,
+    pub steps: usize,
+    pub matrix: usize,
+    pub readings: usize,
+    pub clocks: usize,
 }

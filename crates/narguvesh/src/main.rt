@@ -5,6 +5,8 @@
 ghost use Rattle.std.specs.Prelude.{◌≤◌, length, IfOk};
 
 use anyhow::{Context, Result};
+use merged::Summary;
+use refusals::Refusal;
 use std::fs::File;
 use std::io;
 use std::io::{ErrorKind, Read};
@@ -46,7 +48,7 @@ fn read_file<R: Files>(rt: &R, name: &str, buf: &mut [u8]) -> io::Result<usize>
 // Writes the lines of an answer. The memory fits every answer (docs/MEMORY.md).
 fn write_lines(
     rt: &impl Print,
-    answer: merged::Answer,
+    answer: std::result::Result<Summary, Refusal>,
     times: &[i64],
     kinds: &[u8],
     steps: &[u16],

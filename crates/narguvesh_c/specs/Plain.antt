@@ -1,10 +1,8 @@
 -- A merge's answer as plain numbers: the number that is returned, and the four numbers of the summary. Assumes nothing.
-use Rattle.std.specs.Prelude.{List, [], ◌∷◌, ℕ, replicate}
+use Rattle.std.specs.Prelude.{List, [], ◌∷◌, ℕ, replicate, Option, None, Some}
+use Rattle.numbers.specs.declared.Clock.{Clock}
 use Rattle.merged.specs.declared.Summary.{Summary}
-use Rattle.merged.specs.declared.Trace.{Trace}
-use Rattle.merged.specs.declared.Trace.TheVariants.{Nothing, On}
-use Rattle.merged.specs.declared.Answer.{Answer}
-use Rattle.merged.specs.declared.Answer.TheVariants.{Refused, Merged}
+use Rattle.merged.specs.Answers.{Answer, Refused, Merged}
 
 -- what is told of a sheet without files: 2^32 - 1, which is no clock's number
 abbrev pub untraced : ℕ
@@ -16,9 +14,9 @@ number_of (Refused n) = n
 number_of (Merged s) = 0
 
 -- the trace-time clock's number
-unfoldable pub clock_of : Trace → ℕ
-clock_of Nothing = untraced
-clock_of (On c) = c.0
+unfoldable pub clock_of : Option Clock → ℕ
+clock_of None = untraced
+clock_of (Some c) = c.0
 
 -- files, machines, events and the trace-time clock
 unfoldable pub counts_of : Summary → List ℕ

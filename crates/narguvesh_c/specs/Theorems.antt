@@ -8,7 +8,8 @@ use Rattle.records.specs.Layout.{Record}
 use Rattle.sheet.specs.Lists.{sources_of, events_of}
 use Rattle.sheet.specs.Sheets.{records}
 use Rattle.merged.specs.Facts.{parts_of}
-use Rattle.merged.specs.Merged.{records_of, Room, roomy, Outcome, refused_by, accepted_by, merged}
+use Rattle.merged.specs.declared.Room.{Room}
+use Rattle.merged.specs.Merged.{records_of, roomy, Outcome, refused_by, accepted_by, merged}
 use Rattle.merged.proofs.Demands.{Ends, by_manifest, by_sheet, by_both, by_room, by_none, demand_1, Accepts}
 use Rattle.narguvesh_c.specs.Plain.{number_of}
 use Rattle.narguvesh_c.specs.laws.Counts.{few_sources, few_events, sheet_number}

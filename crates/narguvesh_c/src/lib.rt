@@ -2,29 +2,25 @@
 #![tactic(auto)]
 
 ghost use Rattle.std.specs.Prelude.{◌≡◌, ◌<◌, pos, length, replicate};
+ghost use Rattle.merged.specs.Answers.{told};
 ghost use Rattle.merged.specs.Merged.{merged};
 ghost use Rattle.merge.specs.Memories.{room_of};
 ghost use Rattle.narguvesh_c.specs.Plain.{number_of, clock_of, counts_of, summary_of, events_in};
 
-use merged::{Answer, Summary, Trace};
+use merged::Summary;
+use numbers::Clock;
+use refusals::Refusal;
 
 // What is told of a sheet without files. specs/Plain.antt says the same of `untraced`.
 const UNTRACED: u32 = 0xffffffff;
 
-// A number of 8 bits where one of 32 is asked for.
-fn wide(x: u8) -> u32
-    ensures { result ≡ x }
-{
-    x as u32
-}
-
 // The trace-time clock's number.
-fn clock_number(trace: Trace) -> u32
+fn clock_number(trace: Option<Clock>) -> u32
     ensures { result ≡ clock_of trace }
 {
     match trace {
-        Trace::Nothing => UNTRACED,
-        Trace::On(c) => c.0 as u32,
+        Some(clock) => u32::from(clock.0),
+        None => UNTRACED,
     }
 }
 
@@ -33,36 +29,24 @@ fn counted(s: Summary) -> [u32; 4]
     requires { s.events < 4294967296 }
     ensures { result ≡ counts_of s }
 {
-    let files = wide(s.files);
-    let machines = wide(s.machines);
+    let machines = u32::from(s.machines);
     let events = s.events as u32;
-    let trace = s.trace;
-    let clock = clock_number(trace);
-    [files, machines, events, clock]
+    [u32::from(s.files), machines, events, clock_number(s.trace)]
 }
 
-// Zeroes the summary.
-fn clear(summary: &mut [u32; 4])
-    ensures { summary.new ≡ replicate 4 0 }
-{
-    let zeros: [u32; 4] = [0; 4];
-    *summary = zeros;
-}
-
-// Writes the summary, and gives the refusal's number, 0 of an accepted merge.
-fn tell(answer: Answer, summary: &mut [u32; 4]) -> u8
-    requires { events_in answer < 4294967296 }
-    ensures { (result ≡ number_of answer) × (summary.new ≡ summary_of answer) }
+// Writes the summary, zeros at a refusal, and gives the refusal's number, 0 of an accepted merge.
+fn tell(answer: Result<Summary, Refusal>, summary: &mut [u32; 4]) -> u8
+    requires { events_in (told answer) < 4294967296 }
+    ensures { (result ≡ number_of (told answer)) × (summary.new ≡ summary_of (told answer)) }
 {
     match answer {
-        Answer::Refused(n) => {
-            clear(summary);
-            n
-        }
-        Answer::Merged(s) => {
-            let told = counted(s);
-            *summary = told;
+        Ok(s) => {
+            *summary = counted(s);
             0
+        }
+        Err(refusal) => {
+            summary.fill(0);
+            refusal.number()
         }
     }
 }

@@ -1,11 +1,11 @@
 -- A clock's number and what the clock is are the same knowledge: each way back undoes the other. So no two clocks share a number.
 -- Assumes nothing.
-use Rattle.std.specs.Prelude.{◌≡◌, refl, Bool, true, false, ℕ, ◌+◌, ◌*◌, ◌-◌, ◌/◌, ◌%◌, ◌≤◌, ◌<◌, ltb}
+use Rattle.std.specs.Prelude.{◌≡◌, refl, Some, None, Bool, true, false, ℕ, ◌+◌, ◌*◌, ◌-◌, ◌/◌, ◌%◌, ◌≤◌, ◌<◌, ltb}
 use Rattle.std.proofs.Common.{ap, ap₂, arith, lt-ltb, le-ltb, le-leb, ltb-true, ltb-false}
 use Rattle.numbers.specs.declared.File.{File}
 use Rattle.numbers.specs.declared.Machine.{Machine}
 use Rattle.numbers.specs.declared.Clock.{Clock}
-use Rattle.numbers.specs.declared.Owner.TheVariants.{Domain, Private, Nobody}
+use Rattle.numbers.specs.declared.Owner.TheVariants.{Domain, Private}
 use Rattle.numbers.specs.Numbers.{clocks, machines, files, clock_of, private_of, what_is}
 
 -- clock d of machine m has number 6m + d - 1
@@ -26,29 +26,29 @@ pub private_is_clock : (f : File) → f.0 < files → (private_of f).0 < clocks
 private_is_clock f h = omega (arith, private_number f h)
 
 -- a clock's number tells the domain and the machine, or the file
-pub domain_known : (d : ℕ) (m : Machine) → 1 ≤ d → d ≤ 6 → m.0 < machines → what_is (clock_of d m) ≡ Domain d m
+pub domain_known : (d : ℕ) (m : Machine) → 1 ≤ d → d ≤ 6 → m.0 < machines → what_is (clock_of d m) ≡ Some (Domain d m)
 unfolding what_is
 domain_known d m a b c =
     let n : (clock_of d m).0 ≡ 6 * m.0 + d - 1 = domain_number d m a b c in
     let l : (clock_of d m).0 < 192 = omega arith in
     let e : (clock_of d m).0 % 6 + 1 ≡ d = omega arith in
     let q : (clock_of d m).0 / 6 ≡ m.0 = omega arith in
-    simp (lt-ltb _ _ l) (ap₂ Domain e (ap (λ (k : ℕ). record { 0 = k }) q))
+    simp (lt-ltb _ _ l) (ap₂ (λ (n : ℕ) (k : Machine). Some (Domain n k)) e (ap (λ (k : ℕ). record { 0 = k }) q))
 
-pub private_known : (f : File) → f.0 < files → what_is (private_of f) ≡ Private f
+pub private_known : (f : File) → f.0 < files → what_is (private_of f) ≡ Some (Private f)
 unfolding what_is
 private_known f h =
     let n : (private_of f).0 ≡ 192 + f.0 = private_number f h in
     let g : 192 ≤ (private_of f).0 = omega arith in
     let l : (private_of f).0 < clocks = omega arith in
     let q : (private_of f).0 - 192 ≡ f.0 = omega arith in
-    simp (le-ltb _ _ g, lt-ltb _ _ l) (ap (λ (k : ℕ). Private (record { 0 = k })) q)
+    simp (le-ltb _ _ g, lt-ltb _ _ l) (ap (λ (k : ℕ). Some (Private (record { 0 = k }))) q)
 
 -- whatever number there is, it belongs to a domain of a machine, or to a file, or it is no clock's
 pub data Kept (c : Clock) : Type 0 where
-  of_machine : (d : ℕ) (m : Machine) → 1 ≤ d → d ≤ 6 → m.0 < machines → clock_of d m ≡ c → what_is c ≡ Domain d m → Kept c
-  of_file : (f : File) → f.0 < files → private_of f ≡ c → what_is c ≡ Private f → Kept c
-  of_nobody : clocks ≤ c.0 → what_is c ≡ Nobody → Kept c
+  of_machine : (d : ℕ) (m : Machine) → 1 ≤ d → d ≤ 6 → m.0 < machines → clock_of d m ≡ c → what_is c ≡ Some (Domain d m) → Kept c
+  of_file : (f : File) → f.0 < files → private_of f ≡ c → what_is c ≡ Some (Private f) → Kept c
+  of_nobody : clocks ≤ c.0 → what_is c ≡ None → Kept c
 
 pub kept : (c : Clock) → Kept c
 unfolding what_is

@@ -11,7 +11,7 @@ use lib.Seq.{get_or-set_same, get_or-set_other}
 use Rattle.paths.specs.Paths.{Net, dist, next}
 use Rattle.paths.proofs.laws.Reach.{dist_in, dist_le, dist_rise, at_goal, goal_at}
 use Rattle.paths.proofs.laws.Best.{next_is, next_zero, next_far}
-use Rattle.paths.specs.laws.Search.{Among, First, None, Selves, Level, Rest, Noted, Blank, State}
+use Rattle.paths.specs.laws.Search.{Among, First, NoneOf, Selves, Level, Rest, Noted, Blank, State}
 use Rattle.paths.proofs.Picked.{Picked, picked_none, picked_skip, picked_put}
 
 -- a clock e at k pairs or more, and the clocks at one pair less than k in the queue from a to b
@@ -41,7 +41,7 @@ module _ {g : Net} {k : ℕ} {qs : List ℕ} {a b e : ℕ} (v : Level g k qs a b
           same w.0 w.1 w.2 w.3 (n.smallest c (dist_in g c (omega (arith, near))) h.has (omega (arith, near))) n.pair (dec_lt w.0 h.at) (dec_lt h.at w.0)
 
   -- none does: it is at more
-  miss_off : 0 < k → None (g.adj e) qs a b → k < dist g e
+  miss_off : 0 < k → NoneOf (g.adj e) qs a b → k < dist g e
   miss_off z n = go k refl (ℕ_discrete (dist g e) k)
     where
       go : (m : ℕ) → k ≡ m → Dec (dist g e ≡ k) → k < dist g e
@@ -189,7 +189,7 @@ module _ {g : Net} {cap : ℕ} {ls₀ : List ℕ} {m : ℕ} {ds ns ls qs : List 
     kept_room = omega (arith, s.sum, s.put.order, s.few, s.big)
 
     -- no pair leads from it to the level: it stays
-    pub turn_keep : None (g.adj e) qs a b → Turn g cap ls₀ m ds ns (set ls kept e) qs a b tail k (kept + 1) (d + 1)
+    pub turn_keep : NoneOf (g.adj e) qs a b → Turn g cap ls₀ m ds ns (set ls kept e) qs a b tail k (kept + 1) (d + 1)
     turn_keep n = record {
       fits = s.fits;
       big = s.big;

@@ -3,6 +3,7 @@ pub mod Cell
 pub mod Rest
 pub mod Picked
 pub mod Mask
+pub mod Span
 pub mod Levels
 pub mod Table
 pub mod Walk

@@ -1,11 +1,11 @@
 -- What the definitions come to, over any graph g and any clock c.
-use Rattle.std.specs.Prelude.{ℕ, ◌-◌, ◌≤◌, ◌<◌, ◌≡◌, refl, List, ◌∷◌, length, get_or, take, drop, replicate}
+use Rattle.std.specs.Prelude.{ℕ, ◌-◌, ◌≤◌, ◌<◌, ◌≡◌, refl, List, ◌∷◌, length, get_or, take, drop, replicate, Ok, Err}
 use Rattle.std.proofs.Common.{arith, ap, ◌∙◌}
 use Rattle.numbers.specs.Numbers.{clocks}
 use Rattle.paths.specs.Paths.{Net, Leads, IsBest, dist, path}
 use Rattle.paths.specs.Statements.{Levels, Within}
 use Rattle.paths.specs.Matrix.{far, graph_of, nexts, along, traced}
-use Rattle.paths.specs.declared.Route.TheVariants.{Steps, Nowhere, Short}
+use Rattle.paths.specs.declared.NoRoute.TheVariants.{Nowhere, Short}
 use Rattle.paths.proofs.laws.Reach as reach
 use Rattle.paths.proofs.laws.Best as best
 use Rattle.paths.proofs.laws.Bound as bound
@@ -81,13 +81,13 @@ steps_most m n t c f = omega (arith, graph.graph_far m n t, steps_small (graph_o
 
 -- What the answers of `path` tell. Steps: the best path stands at the start of the memory, and zeros after it.
 module _ (g : Net) (c room : ℕ) where
-  pub steps_best : (k : ℕ) → (traced g c room).answer ≡ Steps k → (k ≤ room) × IsBest g c (take k (traced g c room).out) × (drop k (traced g c room).out ≡ replicate (room - k) 0)
+  pub steps_best : (k : ℕ) → (traced g c room).answer ≡ Ok k → (k ≤ room) × IsBest g c (take k (traced g c room).out) × (drop k (traced g c room).out ≡ replicate (room - k) 0)
   steps_best = trace.steps_best g c room
 
   -- Nowhere: there is no path, and the memory is zeros.
-  pub nowhere_none : g.size ≤ g.far → (traced g c room).answer ≡ Nowhere → ((p : List ℕ) → Leads g c p → ⊥) × ((traced g c room).out ≡ replicate room 0)
+  pub nowhere_none : g.size ≤ g.far → (traced g c room).answer ≡ Err Nowhere → ((p : List ℕ) → Leads g c p → ⊥) × ((traced g c room).out ≡ replicate room 0)
   nowhere_none b e = let (f, z) = trace.nowhere_far g c room e in (far_no_path g c b f, z)
 
   -- Short: the best path has more clocks than the memory, which is zeros.
-  pub short_longer : (traced g c room).answer ≡ Short → IsBest g c (path g c) × (room < length (path g c)) × ((traced g c room).out ≡ replicate room 0)
+  pub short_longer : (traced g c room).answer ≡ Err Short → IsBest g c (path g c) × (room < length (path g c)) × ((traced g c room).out ≡ replicate room 0)
   short_longer = trace.short_longer g c room

@@ -7,8 +7,9 @@ use mathlib.Core.List.{List, ◌∷◌, ◌++◌, append_assoc, append-nil}
 use lib.ListN.{length, get_or, set, take, drop, replicate, length-set, length-replicate, take-append-drop, replicate-append-replicate}
 use lib.Seq.{take-suc-set, drop-set-lt, take_all}
 use Rattle.numbers.specs.Numbers.{clocks}
-use Rattle.paths.specs.declared.Route.{Route}
-use Rattle.paths.specs.declared.Route.TheVariants.{Steps, Nowhere, Short}
+use Rattle.paths.specs.declared.NoRoute.{NoRoute}
+use Rattle.paths.specs.declared.NoRoute.TheVariants.{Nowhere, Short}
+use Rattle.std.specs.Prelude.{Result, Ok, Err}
 use Rattle.paths.specs.Paths.{Net, dist, path}
 use Rattle.paths.specs.Matrix.{far, graph_of, distances, nexts, along, traced}
 use Rattle.paths.proofs.laws.Reach.{outside, dist_le}
@@ -81,7 +82,7 @@ module _ {ns out₀ : List ℕ} {cap c k : ℕ} where
         sym (take-append-drop k out) ∙ rw (f, w.rest)
 
 -- what `path` answers, and what its memory `out` holds then
-abbrev Ends : List ℕ → ℕ → ℕ → ℕ → ℕ → List ℕ → Route → Type 0
+abbrev Ends : List ℕ → ℕ → ℕ → ℕ → ℕ → List ℕ → Result ℕ NoRoute → Type 0
 Ends m n t c room out r = (r ≡ (traced (graph_of m n t) c room).answer) × (out ≡ (traced (graph_of m n t) c room).out)
 
 module _ (m : List ℕ) (n t c room : ℕ) {out : List ℕ} (z : out ≡ replicate room 0) where
@@ -89,7 +90,7 @@ module _ (m : List ℕ) (n t c room : ℕ) {out : List ℕ} (z : out ≡ replica
   g = graph_of m n t
 
   -- no clock
-  pub ends_outside : clocks ≤ c → Ends m n t c room out Nowhere
+  pub ends_outside : clocks ≤ c → Ends m n t c room out (Err Nowhere)
   ends_outside h = rw (traced_nowhere g c room (outside g c (omega (arith, graph_small m n t)))) (refl, z)
 
   cleared_length : length out ≡ room
@@ -97,19 +98,19 @@ module _ (m : List ℕ) (n t c room : ℕ) {out : List ℕ} (z : out ≡ replica
 
   -- the clock's distance has been read
   module _ (h : c < clocks) {ds : List ℕ} (e : ds ≡ distances g) where
-    pub ends_far : get_or ds c 0 ≡ far → Ends m n t c room out Nowhere
+    pub ends_far : get_or ds c 0 ≡ far → Ends m n t c room out (Err Nowhere)
     ends_far f = rw (traced_nowhere g c room (sym (at_distances g e c h) ∙ f ∙ sym (graph_far m n t))) (refl, z)
 
     module _ (ne : get_or ds c 0 ≡ far → ⊥) where
       near : dist g c < g.far
       near = omega (arith, at_distances g e c h, graph_far m n t, dist_le g c)
 
-      pub ends_short : length out < get_or ds c 0 → Ends m n t c room out Short
+      pub ends_short : length out < get_or ds c 0 → Ends m n t c room out (Err Short)
       ends_short l = rw (traced_short g c room near (omega (arith, at_distances g e c h, cleared_length))) (refl, z)
 
       -- the steps have been written over the zeros
-      pub ends_steps : {ns written : List ℕ} → ns ≡ nexts g → get_or ds c 0 ≤ length out → written ≡ along ns (get_or ds c 0) c ++ drop (get_or ds c 0) out → Ends m n t c room written (Steps (get_or ds c 0))
+      pub ends_steps : {ns written : List ℕ} → ns ≡ nexts g → get_or ds c 0 ≤ length out → written ≡ along ns (get_or ds c 0) c ++ drop (get_or ds c 0) out → Ends m n t c room written (Ok (get_or ds c 0))
       ends_steps {ns} {written} q l w =
           let k : get_or ds c 0 ≡ dist g c = at_distances g e c h in
           let w' : written ≡ path g c ++ replicate (room - dist g c) 0 = w ∙ rw (k, q, z, along_trace g (graph_small m n t) (dist g c) c refl near, drop_replicate room (dist g c) 0) in
-          rw (traced_steps g c room near (omega (arith, cleared_length))) (ap Steps k, w')
+          rw (traced_steps g c room near (omega (arith, cleared_length))) (ap Ok k, w')

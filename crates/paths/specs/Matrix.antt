@@ -1,9 +1,9 @@
 -- The graph that a matrix of bytes holds, and what the functions answer of it.
-use Rattle.std.specs.Prelude.{ℕ, zero, suc, ◌+◌, ◌*◌, ◌-◌, Bool, false, cond, ◌&&◌, List, [], ◌∷◌, ◌++◌, ltb, leb, eqb, length, get_or, replicate}
+use Rattle.std.specs.Prelude.{ℕ, zero, suc, ◌+◌, ◌*◌, ◌-◌, Bool, false, cond, ◌&&◌, List, [], ◌∷◌, ◌++◌, ltb, leb, eqb, length, get_or, replicate, Result, Ok, Err}
 use Rattle.numbers.specs.Numbers.{clocks}
 use Rattle.paths.specs.Paths.{Net, dist, next, path}
-use Rattle.paths.specs.declared.Route.{Route}
-use Rattle.paths.specs.declared.Route.TheVariants.{Steps, Nowhere, Short}
+use Rattle.paths.specs.declared.NoRoute.{NoRoute}
+use Rattle.paths.specs.declared.NoRoute.TheVariants.{Nowhere, Short}
 
 -- the number that stands for "no path"
 abbrev pub far : ℕ
@@ -49,12 +49,12 @@ along ns (suc k) c = get_or ns c 0 ∷ along ns k (get_or ns c 0)
 
 -- what the tracing of a path answers, and what the lent memory holds then
 pub record Traced : Type 0 where
-  pub answer : Route
+  pub answer : Result ℕ NoRoute
   pub out : List ℕ
 
 -- the best path from c, its length and its clocks, then zeros to the end of a memory of `room` elements; zeros alone where there is no path or the memory is too short for it
 unfoldable pub traced : Net → ℕ → ℕ → Traced
 traced g c room =
-    cond (eqb (dist g c) g.far) (record { answer = Nowhere; out = replicate room 0 })
-    (cond (ltb room (dist g c)) (record { answer = Short; out = replicate room 0 })
-    (record { answer = Steps (dist g c); out = path g c ++ replicate (room - dist g c) 0 }))
+    cond (eqb (dist g c) g.far) (record { answer = Err Nowhere; out = replicate room 0 })
+    (cond (ltb room (dist g c)) (record { answer = Err Short; out = replicate room 0 })
+    (record { answer = Ok (dist g c); out = path g c ++ replicate (room - dist g c) 0 }))

@@ -1,11 +1,11 @@
 // The best paths to a target in a graph of clocks, which a matrix of bytes holds.
 #![tactic(auto)]
 
-ghost use Rattle.std.specs.Prelude.{◌≡◌, false, ◌++◌, ℕ, ◌+◌, ◌*◌, ◌≤◌, ◌<◌, length, get_or, drop};
+ghost use Rattle.std.specs.Prelude.{◌≡◌, false, ◌++◌, ℕ, ◌+◌, ◌*◌, ◌≤◌, ◌<◌, length, get_or, drop, MatchOption};
 ghost use Rattle.numbers.specs.Numbers.{clocks};
 ghost use Rattle.paths.specs.Matrix.{pair_of, is_graph, held, graph_of, distances, nexts, along, traced};
 ghost use Rattle.paths.specs.laws.Graph.{Whole};
-ghost use Rattle.paths.specs.laws.Search.{Bare, First, None, Marked, Apart, Selves, Rest, State};
+ghost use Rattle.paths.specs.laws.Search.{Bare, First, NoneOf, Marked, Apart, Selves, Rest, State};
 
 // No path: more than any distance.
 const FAR: u16 = 65535;
@@ -24,26 +24,20 @@ struct Ends {
     left: usize,
 }
 
-// How the tracing of a path ends: with so many steps, without a path, or in memory that is too short for it.
+// Why there is no path to write: none leads to the target, or the memory is too short for it.
 #[derive(Clone, Copy)]
-pub enum Route {
-    Steps(u16),
+pub enum NoRoute {
     Nowhere,
     Short,
 }
 
 // Whether the matrix has n rows of n bytes, for no more clocks than there are, and the target is one of them.
 // n is tested first, so that n * n does not wrap.
+#[tactic(auto, unfolding(crate::specs::Matrix::is_graph))]
 fn is_graph(matrix: &[u8], n: usize, target: usize) -> bool
     ensures { result ≡ is_graph matrix.now n target }
 {
-    if numbers::CLOCKS < n {
-        return false;
-    }
-    if matrix.len() != n * n {
-        return false;
-    }
-    target < n
+    n <= numbers::CLOCKS && matrix.len() == n * n && target < n
 }
 
 // Whether a pair leads from c to d: the one place that knows where a cell stands.
@@ -54,32 +48,15 @@ fn pair(matrix: &[u8], n: usize, c: usize, d: usize) -> bool
     0 < matrix[c * n + d]
 }
 
-// The larger of two bytes.
-fn larger(a: u8, b: u8) -> u8
-    ensures { (a ≤ result) × (b ≤ result) }
-{
-    if a < b { b } else { a }
-}
-
-// The smaller of two bytes.
-fn smaller(a: u8, b: u8) -> u8
-    ensures { 0 < a → 0 < b → 0 < result }
-{
-    if a < b { a } else { b }
-}
-
 // Whether a pair leads from clock c. All of its row is looked at, with no way out between, since that becomes a few instructions for 16
 // bytes together.
 fn has_pair(matrix: &[u8], n: usize, c: usize) -> bool
     requires { (length matrix.now ≡ n * n) × (n ≤ clocks) × (c < n) }
     ensures { result ≡ false → Bare matrix.now n c }
 {
-    let row = c * n;
-    let mut most: u8 = 0;
-    let mut d: usize = 0;
-    while d < n {
-        most = larger(most, matrix[row + d]);
-        d += 1;
+    let mut most = 0;
+    for cell in &matrix[c * n..c * n + n] {
+        most = most.max(*cell);
     }
     0 < most
 }
@@ -90,60 +67,40 @@ fn others(matrix: &[u8], n: usize, target: usize, out: &mut [u16; numbers::CLOCK
     requires { Whole matrix.now n target × (length out.old ≡ clocks) }
     ensures { (result < n) × (length out.new ≡ clocks) × Rest (held matrix.now n target) 1 out.new result n }
 {
-    let mut count: usize = 0;
-    let mut c: usize = 0;
-    while c < n {
-        let e = c;
-        c += 1;
-        if e != target {
-            if has_pair(matrix, n, e) {
-                out[count] = e as u16;
-                count += 1;
-            }
+    let mut count = 0;
+    for c in 0..n {
+        if c != target && has_pair(matrix, n, c) {
+            out[count] = c as u16;
+            count += 1;
         }
     }
     count
 }
 
-// The first clock of the queue from one place to another to which a pair leads from e; the number of clocks where there is none. It looks
-// along e's row of the matrix, at no more than the clocks up to the one that it finds.
-fn nearer(
-    matrix: &[u8],
-    n: usize,
-    queue: &[u16; numbers::CLOCKS],
-    from: usize,
-    end: usize,
-    e: usize,
-) -> usize
-    requires matrix_len { (length matrix.now ≡ n * n) × (n ≤ clocks) × (e < n) × (end ≤ clocks) }
-    requires by_index { (i : ℕ) → from ≤ i → i < end → get_or queue.now i 0 < n }
-    ensures found { result < clocks → First (pair_of matrix.now n e) queue.now from end result }
-    ensures none { clocks ≤ result → None (pair_of matrix.now n e) queue.now from end }
+// The first clock of a level to which a pair leads from e. It looks along e's row of the matrix, at no more than the clocks up to the one
+// that it finds.
+fn nearer(matrix: &[u8], n: usize, level: &[u16], e: usize) -> Option<usize>
+    requires matrix_len { (length matrix.now ≡ n * n) × (n ≤ clocks) × (e < n) }
+    requires by_index { (i : ℕ) → i < length level.now → get_or level.now i 0 < n }
+    ensures { MatchOption result (NoneOf (pair_of matrix.now n e) level.now 0 (length level.now)) (λ c. First (pair_of matrix.now n e) level.now 0 (length level.now) c) }
 {
-    let mut i = from;
-    while i < end {
-        let c = queue[i] as usize;
-        i += 1;
+    for clock in level {
+        let c = usize::from(*clock);
         if pair(matrix, n, e, c) {
-            return c;
+            return Some(c);
         }
     }
-    numbers::CLOCKS
+    None
 }
 
-// For each clock a byte: 255 if it stands in the queue from one place to another, else 0. The contract says no more than that these clocks'
-// bytes are not 0.
-fn mask_of(queue: &[u16; numbers::CLOCKS], from: usize, end: usize) -> [u8; numbers::CLOCKS]
-    requires end_le_clocks { end ≤ clocks }
-    requires by_index { (i : ℕ) → from ≤ i → i < end → get_or queue.now i 0 < clocks }
-    ensures { Marked result queue.now from end }
+// For each clock a byte: 255 if it stands in the level, else 0. The contract says no more than that these clocks' bytes are not 0.
+fn mask_of(level: &[u16]) -> [u8; numbers::CLOCKS]
+    requires { (i : ℕ) → i < length level.now → get_or level.now i 0 < clocks }
+    ensures { Marked result level.now 0 (length level.now) }
 {
     let mut mask = [0u8; numbers::CLOCKS];
-    let mut i = from;
-    while i < end {
-        let c = queue[i] as usize;
-        mask[c] = 255;
-        i += 1;
+    for clock in level {
+        mask[usize::from(*clock)] = 255;
     }
     mask
 }
@@ -154,12 +111,9 @@ fn meets(matrix: &[u8], n: usize, e: usize, mask: &[u8; numbers::CLOCKS]) -> boo
     requires { (length matrix.now ≡ n * n) × (n ≤ clocks) × (e < n) }
     ensures { result ≡ false → Apart matrix.now n e mask.now }
 {
-    let row = e * n;
-    let mut most: u8 = 0;
-    let mut d: usize = 0;
-    while d < n {
-        most = larger(most, smaller(mask[d], matrix[row + d]));
-        d += 1;
+    let mut most = 0;
+    for d in 0..n {
+        most = most.max(mask[d].min(matrix[e * n + d]));
     }
     0 < most
 }
@@ -168,24 +122,19 @@ fn meets(matrix: &[u8], n: usize, e: usize, mask: &[u8; numbers::CLOCKS]) -> boo
 fn nearer_in(
     matrix: &[u8],
     n: usize,
-    queue: &[u16; numbers::CLOCKS],
-    from: usize,
-    end: usize,
+    level: &[u16],
     e: usize,
     mask: &[u8; numbers::CLOCKS],
-) -> usize
-    requires matrix_len { (length matrix.now ≡ n * n) × (n ≤ clocks) × (e < n) × (end ≤ clocks) × (from ≤ end) }
-    requires by_index { (i : ℕ) → from ≤ i → i < end → get_or queue.now i 0 < n }
-    requires marked { Marked mask.now queue.now from end }
-    ensures found { result < clocks → First (pair_of matrix.now n e) queue.now from end result }
-    ensures none { clocks ≤ result → None (pair_of matrix.now n e) queue.now from end }
+) -> Option<usize>
+    requires matrix_len { (length matrix.now ≡ n * n) × (n ≤ clocks) × (e < n) }
+    requires by_index { (i : ℕ) → i < length level.now → get_or level.now i 0 < n }
+    requires marked { Marked mask.now level.now 0 (length level.now) }
+    ensures { MatchOption result (NoneOf (pair_of matrix.now n e) level.now 0 (length level.now)) (λ c. First (pair_of matrix.now n e) level.now 0 (length level.now) c) }
 {
-    if 12 < end - from {
-        if !meets(matrix, n, e, mask) {
-            return numbers::CLOCKS;
-        }
+    if 12 < level.len() && !meets(matrix, n, e, mask) {
+        return None;
     }
-    nearer(matrix, n, queue, from, end, e)
+    nearer(matrix, n, level, e)
 }
 
 // Gives the distance k to each clock of the rest from which a pair leads to the level before, the clocks at one pair less, which are the last
@@ -198,33 +147,32 @@ fn level(
     target: usize,
     rest: &mut [u16; numbers::CLOCKS],
     left: usize,
-    dist: &mut [u16; numbers::CLOCKS],
-    next: &mut [u16; numbers::CLOCKS],
+    found: &mut Found,
     queue: &mut [u16; numbers::CLOCKS],
     from: usize,
     end: usize,
     k: u16,
 ) -> Ends
     requires whole { Whole matrix.now n target × (from < end) }
-    requires state { State (held matrix.now n target) clocks dist.old next.old rest.old left queue.old from end k }
-    ensures { State (held matrix.now n target) clocks dist.new next.new rest.new result.left queue.new end result.tail (k + 1) }
+    requires state { State (held matrix.now n target) clocks found.old.dist found.old.next rest.old left queue.old from end k }
+    ensures { State (held matrix.now n target) clocks found.new.dist found.new.next rest.new result.left queue.new end result.tail (k + 1) }
 {
-    let mask = mask_of(queue, from, end);
+    let mask = mask_of(&queue[from..end]);
     let mut tail = end;
-    let mut kept: usize = 0;
-    let mut d: usize = 0;
-    while d < left {
-        let e = rest[d] as usize;
-        d += 1;
-        let c = nearer_in(matrix, n, queue, from, end, e, &mask);
-        if c < numbers::CLOCKS {
-            dist[e] = k;
-            next[e] = c as u16;
-            queue[tail] = e as u16;
-            tail += 1;
-        } else {
-            rest[kept] = e as u16;
-            kept += 1;
+    let mut kept = 0;
+    for d in 0..left {
+        let e = usize::from(rest[d]);
+        match nearer_in(matrix, n, &queue[from..end], e, &mask) {
+            Some(c) => {
+                found.dist[e] = k;
+                found.next[e] = c as u16;
+                queue[tail] = e as u16;
+                tail += 1;
+            }
+            None => {
+                rest[kept] = e as u16;
+                kept += 1;
+            }
         }
     }
     Ends { tail, left: kept }
@@ -235,10 +183,8 @@ fn name_selves(next: &mut [u16; numbers::CLOCKS])
     requires { length next.old ≡ clocks }
     ensures { Selves clocks next.new }
 {
-    let mut c: usize = 0;
-    while c < numbers::CLOCKS {
+    for c in 0..numbers::CLOCKS {
         next[c] = c as u16;
-        c += 1;
     }
 }
 
@@ -247,30 +193,32 @@ fn name_selves(next: &mut [u16; numbers::CLOCKS])
 pub fn search(matrix: &[u8], n: usize, target: usize) -> Found
     ensures { (result.dist ≡ distances (graph_of matrix.now n target)) × (result.next ≡ nexts (graph_of matrix.now n target)) }
 {
-    let mut dist = [FAR; numbers::CLOCKS];
-    let mut next = [0u16; numbers::CLOCKS];
-    name_selves(&mut next);
+    let mut found = Found {
+        dist: [FAR; numbers::CLOCKS],
+        next: [0; numbers::CLOCKS],
+    };
+    name_selves(&mut found.next);
     if !is_graph(matrix, n, target) {
-        return Found { dist, next };
+        return found;
     }
     let mut queue = [0u16; numbers::CLOCKS];
     let mut rest = [0u16; numbers::CLOCKS];
     let mut left = others(matrix, n, target, &mut rest);
-    dist[target] = 0;
+    found.dist[target] = 0;
     queue[0] = target as u16;
-    let mut from: usize = 0;
-    let mut end: usize = 1;
-    let mut k: u16 = 1;
+    let mut from = 0;
+    let mut end = 1;
+    let mut k = 1;
     while from < end {
         let ends = level(
-            matrix, n, target, &mut rest, left, &mut dist, &mut next, &mut queue, from, end, k,
+            matrix, n, target, &mut rest, left, &mut found, &mut queue, from, end, k,
         );
         from = end;
         end = ends.tail;
         left = ends.left;
         k += 1;
     }
-    Found { dist, next }
+    found
 }
 
 // Writes the clocks of k steps from c to the start of out, c left out.
@@ -280,33 +228,37 @@ fn follow(next: &[u16; numbers::CLOCKS], c: usize, k: usize, out: &mut [u16])
     ensures { out.new ≡ along next.now k c ++ drop k out.old }
 {
     let mut at = c;
-    let mut s: usize = 0;
-    while s < k {
-        at = next[at] as usize;
-        out[s] = at as u16;
-        s += 1;
+    for s in 0..k {
+        let to = next[at];
+        out[s] = to;
+        at = usize::from(to);
     }
 }
 
-// The best path from one clock to the target: its clocks, the first left out, are written to out, and out's rest is set to zeros.
-pub fn path(matrix: &[u8], n: usize, target: usize, from: usize, out: &mut [u16]) -> Route
+// The best path from one clock to the target: its clocks, the first left out, are written to out, and out's rest is set to zeros. The answer
+// is the number of its steps.
+pub fn path(
+    matrix: &[u8],
+    n: usize,
+    target: usize,
+    from: usize,
+    out: &mut [u16],
+) -> Result<u16, NoRoute>
     ensures answer { result ≡ (traced (graph_of matrix.now n target) from (length out.old)).answer }
     ensures written { out.new ≡ (traced (graph_of matrix.now n target) from (length out.old)).out }
 {
-    zeros::shorts(out);
+    out.fill(0);
     if numbers::CLOCKS <= from {
-        return Route::Nowhere;
+        return Err(NoRoute::Nowhere);
     }
     let found = search(matrix, n, target);
-    let dist = found.dist;
-    let next = found.next;
-    let k = dist[from];
+    let k = found.dist[from];
     if k == FAR {
-        return Route::Nowhere;
+        return Err(NoRoute::Nowhere);
     }
-    if out.len() < k as usize {
-        return Route::Short;
+    if out.len() < usize::from(k) {
+        return Err(NoRoute::Short);
     }
-    follow(&next, from, k as usize, out);
-    Route::Steps(k)
+    follow(&found.next, from, usize::from(k), out);
+    Ok(k)
 }

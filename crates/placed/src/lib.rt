@@ -1,7 +1,7 @@
 // Each event's answer in lent memory, from correspondences and events that stand at the front of longer lists.
 #![tactic(auto)]
 
-ghost use Rattle.std.specs.Prelude.{◌≡◌, ◌++◌, min, length, take, drop, replicate};
+ghost use Rattle.std.specs.Prelude.{◌≡◌, ◌++◌, length, take, drop, replicate};
 ghost use Rattle.clocks.specs.Answers.{filled};
 ghost use Rattle.placed.specs.Placed.{world_in, cells, cleared};
 
@@ -29,34 +29,11 @@ pub struct Known {
     pub given: Given,
 }
 
-// What is told of both.
-#[derive(Clone, Copy)]
-pub enum Told {
-    Refused(u8),
-    Accepted(Known),
-}
-
-// A count, or a limit where it is larger.
-fn at_most(n: usize, limit: usize) -> usize
-    ensures { result ≡ min n limit }
-{
-    if n < limit { n } else { limit }
-}
-
-// The first n numbers, or all where there are fewer.
-fn front(xs: &[u16], n: usize) -> &[u16]
+// The first n of a list, or all where there are fewer.
+fn front<T>(xs: &[T], n: usize) -> &[T]
     ensures { result.now ≡ take n xs.now }
 {
-    let k = at_most(n, xs.len());
-    &xs[0..k]
-}
-
-// The same of numbers with a sign.
-fn signed_front(xs: &[i64], n: usize) -> &[i64]
-    ensures { result.now ≡ take n xs.now }
-{
-    let k = at_most(n, xs.len());
-    &xs[0..k]
+    &xs[..n.min(xs.len())]
 }
 
 // Each event's answer, as clocks::answers gives it in a matrix of a byte for each two clocks; a longer matrix keeps its rest.
@@ -80,21 +57,21 @@ pub fn place<'a>(
 {
     let n = given.links;
     let k = given.events;
-    let cut = at_most(CELLS, matrix.len());
+    let used = CELLS.min(matrix.len());
     clocks::answers(
         front(a, n),
-        signed_front(x, n),
+        front(x, n),
         front(c, n),
-        signed_front(y, n),
+        front(y, n),
         given.machines,
         given.files,
         given.pinned,
         given.trace,
         front(on, k),
-        signed_front(reads, k),
+        front(reads, k),
         times,
         kinds,
         steps,
-        &mut matrix[0..cut],
+        &mut matrix[..used],
     );
 }

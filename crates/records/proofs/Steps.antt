@@ -1,6 +1,6 @@
 -- A step over one record, in the code's own values: what the readers gave, the verdict, and the state after. Assumes nothing.
 use mathlib.Core.Path.{◌≡◌, refl, sym, ap, ◌∙◌}
-use mathlib.Core.Bool.{Bool, true, false, ◌||◌}
+use mathlib.Core.Bool.{Bool, false, ◌||◌}
 use mathlib.Core.List.{List}
 use Prim.Native.Nat.{ℕ, ◌+◌, ◌*◌, ◌^◌, ◌<◌}
 use native.Mathlib.Omega.{arith}
@@ -12,29 +12,27 @@ use Rattle.bits.specs.laws.Number.{number_lt}
 use Rattle.bits.specs.laws.Fields.{take_in}
 use Rattle.bits.specs.declared.Taken.{Taken}
 use Rattle.records.specs.Layout.{Record, source, snapshot, event, ending, unknown, head_here, file_here, source_here, snapshot_here, event_here, pick, record_of, record_at}
-use Rattle.records.specs.Faults.{is_container, clocks_wrong, fault_of, fault, bit, passed, step_for, step_at}
+use Rattle.records.specs.Faults.{is_container, clocks_wrong, fault_of, fault, bit, Step, Next, told, passed, step_for, step_at}
 use Rattle.records.specs.States.{Fit}
 use Rattle.records.specs.Readers.{far, head_at, source_at, snapshot_at, event_at}
 use Rattle.records.specs.laws.Fields.{length_bytes, head_near, source_near, snapshot_near, event_near}
+use Rattle.std.specs.Prelude.{Option, Result, Err}
+use Rattle.refusals.specs.Refusals.{number as number_of}
+use Rattle.refusals.specs.declared.Refusal.{Refusal}
 use Rattle.records.specs.declared.State.{State}
-use Rattle.records.specs.declared.Step.{Step}
-use Rattle.records.specs.declared.Step.TheVariants.{Next, Bad}
 use Rattle.records.specs.declared.Head.{Head}
 use Rattle.records.specs.declared.Source.{Source}
 use Rattle.records.specs.declared.Snapshot.{Snapshot}
 
-pub step_bad : (s : List ℕ) (st : State) (r : Record) {k : ℕ} → k ≡ fault s st r → (k ≡ 0 → ⊥) → Bad k ≡ step_for s st r
+-- a verdict against a record is the step over it,
+pub step_bad : (s : List ℕ) (st : State) (r : Record) {e : Refusal} {x : Result (Option State) Refusal} → x ≡ Err e → number_of e ≡ fault s st r → 0 < number_of e → told number_of x ≡ step_for s st r
 unfolding step_for pick
-step_bad s st r {k} e h = rw (← e, ne_eqb k 0 h)
+step_bad s st r {e} q f p = rw (q, ← f, ne_eqb (number_of e) 0 (λ z. omega arith))
 
-pub step_good : (s : List ℕ) (st : State) (r : Record) {k : ℕ} {x : Step} → k ≡ fault s st r → k ≡ 0 → x ≡ passed st r → x ≡ step_for s st r
+-- and where there is none the step is what the record leads to
+pub step_good : (s : List ℕ) (st : State) (r : Record) {x : Step} → 0 ≡ fault s st r → x ≡ passed st r → x ≡ step_for s st r
 unfolding step_for pick
-step_good s st r {k} e h q = rw (← e, h) q
-
-no_fault : (x : Bool) → fault_of x true false false false ≡ 0 → ⊥
-unfolding fault_of pick
-no_fault true h = omega arith
-no_fault false h = omega arith
+step_good s st r f q = rw (← f) q
 
 module _ (s : List ℕ) (st : State) (fit : Fit s st) where
   near : st.at < far
@@ -60,7 +58,7 @@ module _ (s : List ℕ) (st : State) (fit : Fit s st) where
   pub source_small : {x : Source} {f : ℕ} → x ≡ source_at s st.at → f ≡ x.file.0 → f < 32
   source_small e q = rw (q, source_is e) (number_lt s (st.at + 3) 5)
 
-  pub source_fault : {x : Source} {f : ℕ} {c w : Bool} {k : ℕ} → x ≡ source_at s st.at → f ≡ x.file.0 → c ≡ is_container st.containers f → w ≡ (leb st.files f || c) →
+  pub source_fault : {x : Source} {f : ℕ} {c w : Bool} {k : ℕ} → x ≡ source_at s st.at → f ≡ x.file.0 → c ≡ is_container st.containers x.file.0 → w ≡ (leb st.files f || c) →
       k ≡ fault_of (ltb (8 * length s) (st.at + 40)) (ltb 2 st.last) w false (leb 32 st.sources) → k ≡ fault s st (source (source_here s st.at))
   source_fault ex ef ec ew ek = rw (ew, ec, ef, source_is ex) at ek
 
@@ -75,36 +73,36 @@ module _ (s : List ℕ) (st : State) (fit : Fit s st) where
   event_fault es ec eo ew ek = rw (ew, eo, es, ec, event_near s st.at near) at ek
 
   -- ---- by the kind
-  kind_is : {t : Taken} → t ≡ taken_at s st.at 3 → number s st.at 3 ≡ t.value
+  kind_is : {t : Taken ℕ} → t ≡ taken_at s st.at 3 → number s st.at 3 ≡ t.value
   kind_is e = rw (e ∙ take_in s st.at 3 (omega arith) (omega (arith, near)))
 
-  of_kind : {t : Taken} (k : ℕ) → t ≡ taken_at s st.at 3 → t.value ≡ k → step_at s st ≡ step_for s st (record_of s st.at k)
+  of_kind : {t : Taken ℕ} (k : ℕ) → t ≡ taken_at s st.at 3 → t.value ≡ k → step_at s st ≡ step_for s st (record_of s st.at k)
   unfolding step_at record_at
   of_kind k e h = ap (λ (n : ℕ). step_for s st (record_of s st.at n)) (kind_is e ∙ h)
 
-  pub is_end : {t : Taken} {r : Step} → t ≡ taken_at s st.at 3 → t.value ≡ 0 → r ≡ step_for s st ending → r ≡ step_at s st
+  pub is_end : {t : Taken ℕ} {r : Step} → t ≡ taken_at s st.at 3 → t.value ≡ 0 → r ≡ step_for s st ending → r ≡ step_at s st
   unfolding record_of pick
   is_end e h q = q ∙ sym (of_kind 0 e h)
 
-  pub is_file : {t : Taken} {r : Step} → t ≡ taken_at s st.at 3 → t.value ≡ 1 → r ≡ step_for s st (file_here s st.at) → r ≡ step_at s st
+  pub is_file : {t : Taken ℕ} {r : Step} → t ≡ taken_at s st.at 3 → t.value ≡ 1 → r ≡ step_for s st (file_here s st.at) → r ≡ step_at s st
   unfolding record_of pick
   is_file e h q = q ∙ sym (of_kind 1 e h)
 
-  pub is_source : {t : Taken} {r : Step} → t ≡ taken_at s st.at 3 → t.value ≡ 2 → r ≡ step_for s st (source (source_here s st.at)) → r ≡ step_at s st
+  pub is_source : {t : Taken ℕ} {r : Step} → t ≡ taken_at s st.at 3 → t.value ≡ 2 → r ≡ step_for s st (source (source_here s st.at)) → r ≡ step_at s st
   unfolding record_of pick
   is_source e h q = q ∙ sym (of_kind 2 e h)
 
-  pub is_snapshot : {t : Taken} {r : Step} → t ≡ taken_at s st.at 3 → t.value ≡ 3 → r ≡ step_for s st (snapshot (snapshot_here s st.at)) → r ≡ step_at s st
+  pub is_snapshot : {t : Taken ℕ} {r : Step} → t ≡ taken_at s st.at 3 → t.value ≡ 3 → r ≡ step_for s st (snapshot (snapshot_here s st.at)) → r ≡ step_at s st
   unfolding record_of pick
   is_snapshot e h q = q ∙ sym (of_kind 3 e h)
 
-  pub is_event : {t : Taken} {r : Step} → t ≡ taken_at s st.at 3 → t.value ≡ 4 → r ≡ step_for s st (event (event_here s st.at)) → r ≡ step_at s st
+  pub is_event : {t : Taken ℕ} {r : Step} → t ≡ taken_at s st.at 3 → t.value ≡ 4 → r ≡ step_for s st (event (event_here s st.at)) → r ≡ step_at s st
   unfolding record_of pick
   is_event e h q = q ∙ sym (of_kind 4 e h)
 
-  pub is_unknown : {t : Taken} {k : ℕ} → t ≡ taken_at s st.at 3 → (t.value ≡ 0 → ⊥) → (t.value ≡ 1 → ⊥) → (t.value ≡ 2 → ⊥) → (t.value ≡ 3 → ⊥) → (t.value ≡ 4 → ⊥) →
-      k ≡ fault_of (ltb (8 * length s) (st.at + 3)) true false false false → Bad k ≡ step_at s st
+  pub is_unknown : {t : Taken ℕ} {r : Step} → t ≡ taken_at s st.at 3 → (t.value ≡ 0 → ⊥) → (t.value ≡ 1 → ⊥) → (t.value ≡ 2 → ⊥) → (t.value ≡ 3 → ⊥) → (t.value ≡ 4 → ⊥) →
+      r ≡ step_for s st unknown → r ≡ step_at s st
   unfolding record_of pick
-  is_unknown {t} {k} e a b c d f q =
+  is_unknown {t} e a b c d f q =
       let u : record_of s st.at t.value ≡ unknown = simp (ne_eqb t.value 0 a, ne_eqb t.value 1 b, ne_eqb t.value 2 c, ne_eqb t.value 3 d, ne_eqb t.value 4 f) in
-      step_bad s st unknown q (λ (z : k ≡ 0). no_fault (ltb (8 * length s) (st.at + 3)) (sym q ∙ z)) ∙ ap (step_for s st) (sym u) ∙ sym (of_kind t.value e refl)
+      q ∙ ap (step_for s st) (sym u) ∙ sym (of_kind t.value e refl)

@@ -16,5 +16,5 @@ taken_lt s i w = go (may_stand i w)
     go true = number_lt s i w
     go false = pow_pos w
 
-pub field_lt : (s : List ℕ) (i w : ℕ) {t : Taken} → t ≡ taken_at s i w → t.value < 2 ^ w
+pub field_lt : (s : List ℕ) (i w : ℕ) {t : Taken ℕ} → t ≡ taken_at s i w → t.value < 2 ^ w
 field_lt s i w e = rw e (taken_lt s i w)

@@ -2,11 +2,10 @@
 use Rattle.std.specs.Prelude.{◌≡◌, refl, false, List, [], ◌∷◌, ℕ, pos, negsuc}
 use Rattle.bits.specs.Bits.{number}
 use Rattle.records.specs.Layout.{file, source, snapshot, event, ending, pick, bytes_at, record_of, record_at}
-use Rattle.records.specs.Faults.{fault_of, after_end, step_for, step_at}
+use Rattle.records.specs.Faults.{fault_of, after_end, step_for, step_at, Next, End, Bad}
 use Rattle.records.specs.States.{start, may_be, step_of}
 use Rattle.records.specs.Readers.{event_at}
 use Rattle.records.specs.declared.State.{State}
-use Rattle.records.specs.declared.Step.TheVariants.{Next, End, Bad}
 
 abbrev sheet : List ℕ
 sheet = 0x2c ∷ 0x02 ∷ 0xc2 ∷ 0x80 ∷ 0x00 ∷ 0x00 ∷ 0x00 ∷ 0x01 ∷ 0x01 ∷ 0x80 ∷ 0x00 ∷ 0x00 ∷ 0x00 ∷ 0x00 ∷ 0x00 ∷ 0x00 ∷ 0x01 ∷ 0x40 ∷ []

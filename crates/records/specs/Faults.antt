@@ -1,10 +1,8 @@
 -- The refusals 26 to 30 in a record, given what the records before it left; and the step over a record. Assumes nothing.
-use Rattle.std.specs.Prelude.{Bool, true, false, ◌||◌, List, ℕ, ◌+◌, ◌-◌, ◌*◌, ◌/◌, ◌%◌, ◌^◌, eqb, ltb, leb, length}
+use Rattle.std.specs.Prelude.{Option, Some, None, Result, Ok, Err, Bool, true, false, ◌||◌, List, ℕ, ◌+◌, ◌-◌, ◌*◌, ◌/◌, ◌%◌, ◌^◌, eqb, ltb, leb, length}
 use Rattle.bits.specs.Bits.{number}
 use Rattle.records.specs.Layout.{Record, file, source, snapshot, event, ending, unknown, pick, record_at, size_of}
 use Rattle.records.specs.declared.State.{State}
-use Rattle.records.specs.declared.Step.{Step}
-use Rattle.records.specs.declared.Step.TheVariants.{Next, End, Bad}
 
 -- 26: the record or the end is cut off
 abbrev pub cut : List ℕ → State → Record → Bool
@@ -70,6 +68,18 @@ abbrev pub fault : List ℕ → State → Record → ℕ
 fault s st r = fault_of (cut s st r) (low st r) (wrong st r) (after s st r) (full st r)
 
 -- ---- the step over a record
+
+-- what a record does: the state after it, the end of the sheet, or a refusal, 26 to 30. Bad 0 is no state of a sheet.
+pub data Step : Type 0 where
+  Next : State → Step
+  End : Step
+  Bad : ℕ → Step
+
+-- which of these a result of the code is, that has None at the end, and an error of which this is the number
+abbrev pub told : {E : Type 0} → (E → ℕ) → Result (Option State) E → Step
+told code (Ok (Some n)) = Next n
+told code (Ok None) = End
+told code (Err e) = Bad (code e)
 
 -- a flag as a number
 abbrev pub bit : Bool → ℕ

@@ -1,10 +1,11 @@
 -- Which states a sheet can be in, and the step on every input. Assumes nothing.
 use Rattle.std.specs.Prelude.{Bool, ◌&&◌, List, ℕ, ◌*◌, ◌^◌, ◌≤◌, ◌<◌, ltb, leb, length}
 use Rattle.records.specs.Layout.{pick}
-use Rattle.records.specs.Faults.{step_at}
+use Rattle.refusals.specs.Refusals.{number}
+use Rattle.records.specs.Faults.{Step, Bad, step_at}
 use Rattle.records.specs.declared.State.{State}
-use Rattle.records.specs.declared.Step.{Step}
-use Rattle.records.specs.declared.Step.TheVariants.{Bad}
+use Rattle.records.specs.declared.Fault.{Fault}
+use Rattle.records.specs.declared.Fault.TheVariants.{Refused, NoState}
 
 -- before the first record
 abbrev pub start : State
@@ -32,3 +33,8 @@ may_be s st =
 -- the step on every input: a state that is none of a sheet is Bad 0
 unfoldable pub step_of : List ℕ → State → Step
 step_of s st = pick (may_be s st) (step_at s st) (Bad 0)
+
+-- the number of a fault: that of the refusal, or 0 of no state of a sheet
+abbrev pub fault_number : Fault → ℕ
+fault_number (Refused r) = number r
+fault_number NoState = 0

@@ -2,7 +2,7 @@
 use Rattle.std.specs.Prelude.{◌≡◌, refl, Bool, true, false, List, ◌++◌, ℕ, ◌+◌, ◌*◌, ◌≤◌, ◌<◌, length}
 use Rattle.bits.specs.Bits.{number}
 use Rattle.records.specs.Layout.{Record, pick, record_at, path_here, head_here, source_here, snapshot_here, event_here}
-use Rattle.records.specs.Faults.{cut, low, wrong, after, full, fault_of, fault, to_byte_end, after_end, step_at}
+use Rattle.records.specs.Faults.{cut, low, wrong, after, full, fault_of, fault, to_byte_end, after_end, step_at, Next, Bad}
 use Rattle.records.specs.States.{start, Fit, may_be, step_of}
 use Rattle.records.specs.Readers.{far, head_at, source_at, snapshot_at, event_at, path_at}
 use Rattle.records.specs.laws.Fields as Fields
@@ -11,7 +11,6 @@ use Rattle.records.specs.laws.Steps as Steps
 use Rattle.records.specs.laws.Longer as Longer
 use Rattle.records.specs.laws.Ends as Ends
 use Rattle.records.specs.declared.State.{State}
-use Rattle.records.specs.declared.Step.TheVariants.{Next, Bad}
 
 -- ---- the smallest number that applies in a record
 

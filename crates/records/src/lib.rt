@@ -2,14 +2,16 @@
 // Reading and judging are apart: a reader turns bits into a record, and a test looks at the record and a small state.
 #![tactic(auto)]
 
-ghost use Rattle.std.specs.Prelude.{◌≡◌, ◌||◌, ◌&&◌, ◌+◌, ◌*◌, ◌^◌, ◌<◌, ◌≤◌, length};
-ghost use Rattle.records.specs.Layout.{file_here, source_here, snapshot_here, event_here, source, snapshot, event, ending};
+ghost use Rattle.std.specs.Prelude.{◌≡◌, ◌+◌, ◌*◌, ◌^◌, ◌<◌, ◌≤◌, length, IfErr};
+ghost use Rattle.refusals.specs.Refusals.{number, refused};
+ghost use Rattle.records.specs.Layout.{file_here, source_here, snapshot_here, event_here, source, snapshot, event, ending, unknown};
 ghost use Rattle.records.specs.Readers.{head_at, source_at, snapshot_at, event_at};
-ghost use Rattle.records.specs.Faults.{bit, is_container, clocks_wrong, after_end, fault_of, step_for, step_at};
-ghost use Rattle.records.specs.States.{may_be, step_of, Fit};
+ghost use Rattle.records.specs.Faults.{bit, is_container, clocks_wrong, after_end, fault_of, told, step_for, step_at};
+ghost use Rattle.records.specs.States.{may_be, step_of, fault_number, Fit};
 
 use bits::Cursor;
 use numbers::File;
+use refusals::Refusal;
 
 // No sheet of fewer than 2^32 bytes has a record at a bit position from this one on: there is nothing to read.
 const FAR: usize = 0x10_0000_0000;
@@ -17,8 +19,8 @@ const FAR: usize = 0x10_0000_0000;
 // The longest slice that is judged, so that its bits can be counted. The limit of a sheet, 65,536 bytes, is not a record's.
 const LONGEST: usize = 0xffff_ffff;
 
-// A file record up to its path, which starts 15 bits after the record. A claim of 0 is none.
-#[derive(Clone, Copy)]
+// A file record up to its path, which starts 15 bits after the record. A claim of 0 is none: the definitions have the layout's numbers, so it is no Option.
+#[derive(Clone, Copy, Debug, Default, PartialEq, Eq)]
 pub struct Head {
     pub container: bool,
     pub claim: u8,
@@ -26,14 +28,14 @@ pub struct Head {
 }
 
 // A source record: a file of the sheet, and the embedded machine id.
-#[derive(Clone, Copy)]
+#[derive(Clone, Copy, Debug, Default, PartialEq, Eq)]
 pub struct Source {
     pub file: File,
     pub id: u32,
 }
 
 // A snapshot record: one source's two clocks, 1 to 6, and what each read.
-#[derive(Clone, Copy)]
+#[derive(Clone, Copy, Debug, Default, PartialEq, Eq)]
 pub struct Snapshot {
     pub source: u8,
     pub clock: u8,
@@ -43,7 +45,7 @@ pub struct Snapshot {
 }
 
 // An event record: its source, a clock, 1 to 6 or 0 for the file's private clock, and the reading.
-#[derive(Clone, Copy)]
+#[derive(Clone, Copy, Debug, Default, PartialEq, Eq)]
 pub struct Event {
     pub source: u8,
     pub clock: u8,
@@ -51,15 +53,16 @@ pub struct Event {
 }
 
 // What judging an event record needs of it: its source and its clock. The 64 bits of the reading decide nothing.
-#[derive(Clone, Copy)]
+#[derive(Clone, Copy, Default)]
 struct Label {
     source: u8,
     clock: u8,
 }
 
 // What judging a record needs of those before it: the bit position, the last kind, how many of each kind there were,
-// and which files are containers (bit f of `containers` is file f). Plain numbers, so that no earlier byte is needed.
-#[derive(Clone, Copy)]
+// and which files are containers (bit f of `containers` is file f). Plain numbers, so that no earlier byte is needed; the definitions order kinds by number,
+// so `last` is one.
+#[derive(Clone, Copy, Debug, Default, PartialEq, Eq)]
 pub struct State {
     pub at: usize,
     pub last: u8,
@@ -70,19 +73,49 @@ pub struct State {
     pub events: usize,
 }
 
-// What a record does: the state after it, the end of the sheet, or a refusal, 26 to 30. Bad(0) is no state of a sheet.
-#[derive(Clone, Copy)]
-pub enum Step {
-    Next(State),
-    End,
-    Bad(u8),
+// Why there is no step over a record.
+#[derive(Clone, Copy, Debug, PartialEq, Eq)]
+pub enum Fault {
+    // One of the refusals 26 to 30 applies in it.
+    Refused(Refusal),
+    // No sheet is in such a state.
+    NoState,
 }
 
-// A number of 8 bits where one of 64 is asked for.
-fn wide(x: u8) -> usize
-    ensures { result ≡ x }
-{
-    x as usize
+// Which of the refusals 26 to 30 apply in a record: it is cut off, of a lower or no kind, with a wrong field, with something after the end, one too many.
+#[derive(Clone, Copy)]
+struct Faults {
+    cut: bool,
+    low: bool,
+    wrong: bool,
+    after: bool,
+    full: bool,
+}
+
+impl Faults {
+    // The first of them that applies.
+    #[tactic(auto, unfolding(crate::specs::Faults::fault_of, crate::specs::Layout::pick))]
+    fn verdict(self) -> Result<(), Refusal>
+        ensures first { refused result ≡ fault_of self.cut self.low self.wrong self.after self.full }
+        ensures some { IfErr result (λ r. 0 < number r) }
+    {
+        if self.cut {
+            return Err(Refusal::RecordCutOff);
+        }
+        if self.low {
+            return Err(Refusal::WrongKindOfRecord);
+        }
+        if self.wrong {
+            return Err(Refusal::WrongField);
+        }
+        if self.after {
+            return Err(Refusal::SomethingAfterTheEnd);
+        }
+        if self.full {
+            return Err(Refusal::TooManyRecords);
+        }
+        Ok(())
+    }
 }
 
 // The file record at a bit position, without its path.
@@ -90,11 +123,7 @@ pub fn head_at(s: &[u8], at: usize) -> Head
     ensures { result ≡ head_at s.now at }
 {
     if FAR <= at {
-        return Head {
-            container: false,
-            claim: 0,
-            length: 0,
-        };
+        return Head::default();
     }
     let kind = Cursor { at }.take(s, 3);
     let container = kind.next.take(s, 1);
@@ -112,10 +141,7 @@ pub fn source_at(s: &[u8], at: usize) -> Source
     ensures { result ≡ source_at s.now at }
 {
     if FAR <= at {
-        return Source {
-            file: File(0),
-            id: 0,
-        };
+        return Source::default();
     }
     let kind = Cursor { at }.take(s, 3);
     let file = kind.next.take(s, 5);
@@ -131,13 +157,7 @@ pub fn snapshot_at(s: &[u8], at: usize) -> Snapshot
     ensures { result ≡ snapshot_at s.now at }
 {
     if FAR <= at {
-        return Snapshot {
-            source: 0,
-            clock: 0,
-            reading: 0,
-            clock2: 0,
-            reading2: 0,
-        };
+        return Snapshot::default();
     }
     let kind = Cursor { at }.take(s, 3);
     let source = kind.next.take(s, 5);
@@ -148,9 +168,9 @@ pub fn snapshot_at(s: &[u8], at: usize) -> Snapshot
     Snapshot {
         source: source.value as u8,
         clock: clock.value as u8,
-        reading: whole::of_pattern(reading.value),
+        reading: reading.value.cast_signed(),
         clock2: clock2.value as u8,
-        reading2: whole::of_pattern(reading2.value),
+        reading2: reading2.value.cast_signed(),
     }
 }
 
@@ -159,11 +179,7 @@ pub fn event_at(s: &[u8], at: usize) -> Event
     ensures { result ≡ event_at s.now at }
 {
     if FAR <= at {
-        return Event {
-            source: 0,
-            clock: 0,
-            reading: 0,
-        };
+        return Event::default();
     }
     let kind = Cursor { at }.take(s, 3);
     let whose = kind.next.take(s, 5);
@@ -172,7 +188,7 @@ pub fn event_at(s: &[u8], at: usize) -> Event
     Event {
         source: whose.value as u8,
         clock: which.value as u8,
-        reading: whole::of_pattern(when.value),
+        reading: when.value.cast_signed(),
     }
 }
 
@@ -181,10 +197,7 @@ fn label_at(s: &[u8], at: usize) -> Label
     ensures { (result.source ≡ (event_at s.now at).source) × (result.clock ≡ (event_at s.now at).clock) }
 {
     if FAR <= at {
-        return Label {
-            source: 0,
-            clock: 0,
-        };
+        return Label::default();
     }
     let kind = Cursor { at }.take(s, 3);
     let source_field = kind.next.take(s, 5);
@@ -195,64 +208,20 @@ fn label_at(s: &[u8], at: usize) -> Label
     }
 }
 
-// `or` of two tests that are both made: no branch.
-fn either(a: bool, b: bool) -> bool
-    ensures { result ≡ (a || b) }
-{
-    if a { true } else { b }
-}
-
-// `and` of two tests that are both made.
-fn both(a: bool, b: bool) -> bool
-    ensures { result ≡ (a && b) }
-{
-    if a { b } else { false }
-}
-
-// The smallest number that applies to a record; 0 if none does.
-fn verdict(cut: bool, low: bool, wrong: bool, after: bool, full: bool) -> u8
-    ensures { result ≡ fault_of cut low wrong after full }
-{
-    if cut {
-        return 26;
-    }
-    if low {
-        return 27;
-    }
-    if wrong {
-        return 28;
-    }
-    if after {
-        return 29;
-    }
-    if full {
-        return 30;
-    }
-    0
-}
-
-// 2^n, the bit of file n.
-fn power(n: usize) -> u64
-    requires { n ≤ 32 }
-    ensures { result ≡ 2 ^ n }
-{
-    1u64 << n
-}
-
 // The containers with one file more, file n.
 fn mark(containers: u64, n: usize, container: bool) -> u64
     requires { (n ≤ 32) × (containers < 2 ^ n) }
     ensures { result ≡ containers + bit container * 2 ^ n }
 {
     if container {
-        containers + power(n)
+        containers + (1 << n)
     } else {
         containers
     }
 }
 
 // Whether file f is a container.
-fn is_container(containers: u64, f: usize) -> bool
+fn is_container(containers: u64, f: u8) -> bool
     requires { f < 32 }
     ensures { result ≡ is_container containers f }
 {
@@ -263,10 +232,7 @@ fn is_container(containers: u64, f: usize) -> bool
 fn clocks_wrong(a: u8, b: u8) -> bool
     ensures { result ≡ clocks_wrong a b }
 {
-    either(
-        either(a == 7, b == 7),
-        either(either(a == 0, b == 0), a == b),
-    )
+    a == 7 || b == 7 || a == 0 || b == 0 || a == b
 }
 
 // 29: a bit that is set, or a byte, after an end record that ends at e.
@@ -275,202 +241,168 @@ fn after_end(s: &[u8], e: usize) -> bool
     ensures { result ≡ after_end s.now e }
 {
     let pad = (8 - e % 8) % 8;
-    let t = Cursor { at: e }.take(s, pad as u32);
-    let v = t.value;
-    either(0 < v, e + pad < 8 * s.len())
+    let rest = Cursor { at: e }.take(s, pad as u32);
+    0 < rest.value || e + pad < 8 * s.len()
 }
 
 // A step over a file record.
-fn step_file(s: &[u8], st: State) -> Step
+fn step_file(s: &[u8], st: State) -> Result<Option<State>, Refusal>
     requires { Fit s.now st }
-    ensures { result ≡ step_for s.now st (file_here s.now st.at) }
+    ensures { told number result ≡ step_for s.now st (file_here s.now st.at) }
 {
-    let at = st.at;
-    let h = head_at(s, at);
-    let size = 15 + 8 * wide(h.length);
-    let k = verdict(
-        8 * s.len() < at + size,
-        1 < st.last,
-        either(h.length == 0, h.claim == 7),
-        false,
-        32 <= st.files,
-    );
-    if k != 0 {
-        return Step::Bad(k);
+    let head = head_at(s, st.at);
+    let end = st.at + (15 + 8 * usize::from(head.length));
+    Faults {
+        cut: 8 * s.len() < end,
+        low: 1 < st.last,
+        wrong: head.length == 0 || head.claim == 7,
+        after: false,
+        full: 32 <= st.files,
     }
-    let m = mark(st.containers, st.files, h.container);
-    Step::Next(State {
-        at: at + size,
+    .verdict()?;
+    Ok(Some(State {
+        at: end,
         last: 1,
         files: st.files + 1,
-        containers: m,
-        sources: st.sources,
-        snapshots: st.snapshots,
-        events: st.events,
-    })
+        containers: mark(st.containers, st.files, head.container),
+        ..st
+    }))
 }
 
 // A step over a source record.
-fn step_source(s: &[u8], st: State) -> Step
+fn step_source(s: &[u8], st: State) -> Result<Option<State>, Refusal>
     requires { Fit s.now st }
-    ensures { result ≡ step_for s.now st (source (source_here s.now st.at)) }
+    ensures { told number result ≡ step_for s.now st (source (source_here s.now st.at)) }
 {
-    let at = st.at;
-    let x = source_at(s, at);
-    let f = wide(x.file.0);
-    let k = verdict(
-        8 * s.len() < at + 40,
-        2 < st.last,
-        either(st.files <= f, is_container(st.containers, f)),
-        false,
-        32 <= st.sources,
-    );
-    if k != 0 {
-        return Step::Bad(k);
+    let found = source_at(s, st.at);
+    let file = found.file.0;
+    Faults {
+        cut: 8 * s.len() < st.at + 40,
+        low: 2 < st.last,
+        wrong: st.files <= usize::from(file) || is_container(st.containers, file),
+        after: false,
+        full: 32 <= st.sources,
     }
-    Step::Next(State {
-        at: at + 40,
+    .verdict()?;
+    Ok(Some(State {
+        at: st.at + 40,
         last: 2,
-        files: st.files,
-        containers: st.containers,
         sources: st.sources + 1,
-        snapshots: st.snapshots,
-        events: st.events,
-    })
+        ..st
+    }))
 }
 
 // A step over a snapshot record.
-fn step_snapshot(s: &[u8], st: State) -> Step
+fn step_snapshot(s: &[u8], st: State) -> Result<Option<State>, Refusal>
     requires { Fit s.now st }
-    ensures { result ≡ step_for s.now st (snapshot (snapshot_here s.now st.at)) }
+    ensures { told number result ≡ step_for s.now st (snapshot (snapshot_here s.now st.at)) }
 {
-    let at = st.at;
-    let x = snapshot_at(s, at);
-    let k = verdict(
-        8 * s.len() < at + 142,
-        3 < st.last,
-        either(
-            st.sources <= wide(x.source),
-            clocks_wrong(x.clock, x.clock2),
-        ),
-        false,
-        256 <= st.snapshots,
-    );
-    if k != 0 {
-        return Step::Bad(k);
+    let found = snapshot_at(s, st.at);
+    Faults {
+        cut: 8 * s.len() < st.at + 142,
+        low: 3 < st.last,
+        wrong: st.sources <= usize::from(found.source) || clocks_wrong(found.clock, found.clock2),
+        after: false,
+        full: 256 <= st.snapshots,
     }
-    Step::Next(State {
-        at: at + 142,
+    .verdict()?;
+    Ok(Some(State {
+        at: st.at + 142,
         last: 3,
-        files: st.files,
-        containers: st.containers,
-        sources: st.sources,
         snapshots: st.snapshots + 1,
-        events: st.events,
-    })
+        ..st
+    }))
 }
 
 // A step over an event record.
-fn step_event(s: &[u8], st: State) -> Step
+fn step_event(s: &[u8], st: State) -> Result<Option<State>, Refusal>
     requires { Fit s.now st }
-    ensures { result ≡ step_for s.now st (event (event_here s.now st.at)) }
+    ensures { told number result ≡ step_for s.now st (event (event_here s.now st.at)) }
 {
-    let at = st.at;
-    let x = label_at(s, at);
-    let k = verdict(
-        8 * s.len() < at + 75,
-        4 < st.last,
-        either(st.sources <= wide(x.source), x.clock == 7),
-        false,
-        false,
-    );
-    if k != 0 {
-        return Step::Bad(k);
+    let label = label_at(s, st.at);
+    Faults {
+        cut: 8 * s.len() < st.at + 75,
+        low: 4 < st.last,
+        wrong: st.sources <= usize::from(label.source) || label.clock == 7,
+        after: false,
+        full: false,
     }
-    Step::Next(State {
-        at: at + 75,
+    .verdict()?;
+    Ok(Some(State {
+        at: st.at + 75,
         last: 4,
-        files: st.files,
-        containers: st.containers,
-        sources: st.sources,
-        snapshots: st.snapshots,
         events: st.events + 1,
-    })
+        ..st
+    }))
 }
 
 // A step over the end record.
-fn step_end(s: &[u8], st: State) -> Step
+fn step_end(s: &[u8], st: State) -> Result<Option<State>, Refusal>
     requires { Fit s.now st }
-    ensures { result ≡ step_for s.now st ending }
+    ensures { told number result ≡ step_for s.now st ending }
 {
-    let at = st.at;
-    let k = verdict(
-        8 * s.len() < at + 3,
-        false,
-        false,
-        after_end(s, at + 3),
-        false,
-    );
-    if k != 0 {
-        return Step::Bad(k);
+    Faults {
+        cut: 8 * s.len() < st.at + 3,
+        low: false,
+        wrong: false,
+        after: after_end(s, st.at + 3),
+        full: false,
     }
-    Step::End
+    .verdict()?;
+    Ok(None)
+}
+
+// A step over a record of no kind: it is cut off, or of a wrong kind.
+fn step_unknown(s: &[u8], st: State) -> Result<Option<State>, Refusal>
+    requires { Fit s.now st }
+    ensures { told number result ≡ step_for s.now st unknown }
+{
+    if 8 * s.len() < st.at + 3 {
+        Err(Refusal::RecordCutOff)
+    } else {
+        Err(Refusal::WrongKindOfRecord)
+    }
 }
 
 // A step over the record at a state of a sheet, by its kind.
-fn step_by_kind(s: &[u8], st: State) -> Step
+fn step_by_kind(s: &[u8], st: State) -> Result<Option<State>, Refusal>
     requires { Fit s.now st }
-    ensures { result ≡ step_at s.now st }
+    ensures { told number result ≡ step_at s.now st }
 {
-    let at = st.at;
-    let t = Cursor { at }.take(s, 3);
-    let kind = t.value;
-    if kind == 0 {
-        return step_end(s, st);
+    match (Cursor { at: st.at }).take(s, 3).value {
+        0 => step_end(s, st),
+        1 => step_file(s, st),
+        2 => step_source(s, st),
+        3 => step_snapshot(s, st),
+        4 => step_event(s, st),
+        _ => step_unknown(s, st),
     }
-    if kind == 1 {
-        return step_file(s, st);
-    }
-    if kind == 2 {
-        return step_source(s, st);
-    }
-    if kind == 3 {
-        return step_snapshot(s, st);
-    }
-    if kind == 4 {
-        return step_event(s, st);
-    }
-    let k = verdict(8 * s.len() < at + 3, true, false, false, false);
-    Step::Bad(k)
 }
 
 // Whether a state can be one of a sheet in these bytes.
+#[tactic(auto, unfolding(crate::specs::States::may_be))]
 fn may_be(s: &[u8], st: State) -> bool
     ensures { result ≡ may_be s.now st }
 {
-    if LONGEST < s.len() {
-        return false;
-    }
-    if 32 < st.files {
-        return false;
-    }
-    both(
-        both(
-            both(st.at <= 8 * s.len(), st.last <= 4),
-            both(st.sources <= 32, st.snapshots <= 256),
-        ),
-        both(st.events <= st.at, st.containers < power(st.files)),
-    )
+    s.len() <= LONGEST
+        && st.files <= 32
+        && st.at <= 8 * s.len()
+        && st.last <= 4
+        && st.sources <= 32
+        && st.snapshots <= 256
+        && st.events <= st.at
+        && st.containers < 1 << st.files
 }
 
-// One record: what comes after it, the end, or the smallest number that applies; Bad(0) if no sheet is in such a state.
+// One record: the state after it, None at the end of the sheet, or the smallest refusal that applies; NoState if no sheet is in such a state.
 // It needs no byte in front of the record, so that a sheet can come in parts or be cut short.
-pub fn step_over(s: &[u8], st: State) -> Step
-    ensures { result ≡ step_of s.now st }
+#[tactic(auto, unfolding(crate::specs::States::step_of, crate::specs::Layout::pick))]
+pub fn step_over(s: &[u8], st: State) -> Result<Option<State>, Fault>
+    ensures { told fault_number result ≡ step_of s.now st }
 {
     if may_be(s, st) {
-        step_by_kind(s, st)
+        step_by_kind(s, st).map_err(Fault::Refused)
     } else {
-        Step::Bad(0)
+        Err(Fault::NoState)
     }
 }

@@ -3,11 +3,11 @@ use Rattle.std.specs.Prelude.{List, ℕ, ◌*◌, min, ℤ, length}
 use Rattle.text.specs.Reading.{pick}
 use Rattle.numbers.specs.Numbers.{clocks}
 use Rattle.clocks.specs.Answers.{Filled}
-use Rattle.merged.specs.Merged.{Room, Outcome, padded, refused_by}
+use Rattle.merged.specs.declared.Room.{Room}
+use Rattle.merged.specs.Merged.{Outcome, padded, refused_by}
 use Rattle.placed.specs.Placed.{world_in}
 use Rattle.placed.specs.declared.Known.{Known}
-use Rattle.placed.specs.declared.Told.{Told}
-use Rattle.placed.specs.declared.Told.TheVariants.{Refused, Accepted}
+use Rattle.placed.specs.Told.{Told, Refused, Accepted}
 use Rattle.answered.specs.Answered.{machines_in, events_in, summed}
 use Rattle.joins.specs.Joined.{roomy_for}
 

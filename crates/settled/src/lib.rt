@@ -1,80 +1,51 @@
 // What was told of a manifest and a sheet, settled in memory that the caller lends: a refusal leaves zeros, and what is known is answered.
 #![tactic(auto)]
 
-ghost use Rattle.std.specs.Prelude.{◌≡◌, ◌&&◌, leb, pos, length, replicate};
+ghost use Rattle.std.specs.Prelude.{◌≡◌, pos, length, replicate};
+ghost use Rattle.merged.specs.Answers.{told as answer_told};
+ghost use Rattle.placed.specs.Told.{as_told};
+ghost use Rattle.joins.specs.Joined.{roomy_for};
 ghost use Rattle.settled.specs.Settled.{room_in, fitted_in, settled_in};
 
-use merged::Answer;
-use placed::{Known, Told};
+use merged::{Room, Summary};
+use placed::Known;
+use refusals::Refusal;
 
 // A byte for each two clocks.
 const CELLS: usize = numbers::CLOCKS * numbers::CLOCKS;
 
-// Whether the output memories are long enough for so many sources and events.
-fn outputs_fit(known: Known, machines: usize, times: usize, kinds: usize, steps: usize) -> bool
-    ensures { result ≡ (leb known.sources machines && leb known.given.events times && leb known.given.events kinds && leb known.given.events steps) }
+// Whether the lent memories are long enough for what is known.
+fn is_roomy(known: Known, room: Room) -> bool
+    ensures { result ≡ roomy_for known.sources known.given.events room }
 {
-    let given = known.given;
-    let events = given.events;
-    if machines < known.sources {
-        return false;
-    }
-    if times < events {
-        return false;
-    }
-    if kinds < events {
-        return false;
-    }
-    events <= steps
+    let events = known.given.events;
+    let asked_and_lent = [
+        (known.sources, room.machines),
+        (events, room.times),
+        (events, room.kinds),
+        (events, room.steps),
+        (CELLS, room.matrix),
+        (events, room.readings),
+        (events, room.clocks),
+    ];
+    asked_and_lent.iter().all(|(asked, lent)| *asked <= *lent)
 }
 
-// Whether the work memories are as well.
-fn is_roomy(fit: bool, events: usize, matrix: usize, readings: usize, clocks: usize) -> bool
-    ensures { result ≡ (fit && leb 50176 matrix && leb events readings && leb events clocks) }
+// What was told, or the refusal of a lent memory that is too short for it.
+pub fn fitted(told: Result<Known, Refusal>, room: Room) -> Result<Known, Refusal>
+    ensures { as_told result ≡ fitted_in room (as_told told) }
 {
-    if !fit {
-        return false;
+    let known = told?;
+    if !is_roomy(known, room) {
+        return Err(Refusal::MemoryTooShort);
     }
-    if matrix < CELLS {
-        return false;
-    }
-    if readings < events {
-        return false;
-    }
-    events <= clocks
-}
-
-// What was told, or refusal 38 where a lent memory is too short.
-pub fn fitted(
-    told: Told,
-    machines: usize,
-    times: usize,
-    kinds: usize,
-    steps: usize,
-    matrix: usize,
-    readings: usize,
-    clocks: usize,
-) -> Told
-    ensures { result ≡ fitted_in (record { machines = machines; times = times; kinds = kinds; steps = steps; matrix = matrix; readings = readings; clocks = clocks }) told }
-{
-    match told {
-        Told::Refused(k) => Told::Refused(k),
-        Told::Accepted(known) => {
-            let given = known.given;
-            let fit = outputs_fit(known, machines, times, kinds, steps);
-            let roomy = is_roomy(fit, given.events, matrix, readings, clocks);
-            if !roomy {
-                return Told::Refused(38);
-            }
-            Told::Accepted(known)
-        }
-    }
+    Ok(known)
 }
 
 // Settles: the memories may hold anything. A refusal leaves zeros alone; what is known is answered as answered::answer does, and zeros are left
-// in the work memories.
+// in the work memories. (They are parameters: each clause on a struct of `&mut` would also say that its fields are the same references.)
 pub fn settle<'a>(
-    told: Told,
+    told: Result<Known, Refusal>,
     t: &[u32; 324],
     b: &[u8],
     a: &'a [u16],
@@ -88,23 +59,23 @@ pub fn settle<'a>(
     matrix: &mut [u8],
     readings: &mut [i64],
     clocks: &mut [u16],
-) -> Answer
-    ensures answer { result ≡ (settled_in t.now b.now a.now x.now c.now y.now clocks.old readings.old (room_in machines.old times.old kinds.old steps.old matrix.old readings.old clocks.old) told).answer }
-    ensures machines { machines.new ≡ (settled_in t.now b.now a.now x.now c.now y.now clocks.old readings.old (room_in machines.old times.old kinds.old steps.old matrix.old readings.old clocks.old) told).machines }
-    ensures times { times.new ≡ (settled_in t.now b.now a.now x.now c.now y.now clocks.old readings.old (room_in machines.old times.old kinds.old steps.old matrix.old readings.old clocks.old) told).times }
-    ensures kinds { kinds.new ≡ (settled_in t.now b.now a.now x.now c.now y.now clocks.old readings.old (room_in machines.old times.old kinds.old steps.old matrix.old readings.old clocks.old) told).kinds }
-    ensures steps { steps.new ≡ (settled_in t.now b.now a.now x.now c.now y.now clocks.old readings.old (room_in machines.old times.old kinds.old steps.old matrix.old readings.old clocks.old) told).steps }
+) -> Result<Summary, Refusal>
+    ensures answer { answer_told result ≡ (settled_in t.now b.now a.now x.now c.now y.now clocks.old readings.old (room_in machines.old times.old kinds.old steps.old matrix.old readings.old clocks.old) (as_told told)).answer }
+    ensures machines { machines.new ≡ (settled_in t.now b.now a.now x.now c.now y.now clocks.old readings.old (room_in machines.old times.old kinds.old steps.old matrix.old readings.old clocks.old) (as_told told)).machines }
+    ensures times { times.new ≡ (settled_in t.now b.now a.now x.now c.now y.now clocks.old readings.old (room_in machines.old times.old kinds.old steps.old matrix.old readings.old clocks.old) (as_told told)).times }
+    ensures kinds { kinds.new ≡ (settled_in t.now b.now a.now x.now c.now y.now clocks.old readings.old (room_in machines.old times.old kinds.old steps.old matrix.old readings.old clocks.old) (as_told told)).kinds }
+    ensures steps { steps.new ≡ (settled_in t.now b.now a.now x.now c.now y.now clocks.old readings.old (room_in machines.old times.old kinds.old steps.old matrix.old readings.old clocks.old) (as_told told)).steps }
     ensures matrix { matrix.new ≡ replicate (length matrix.old) 0 }
     ensures readings { readings.new ≡ replicate (length readings.old) (pos 0) }
     ensures clocks { clocks.new ≡ replicate (length clocks.old) 0 }
 {
     match told {
-        Told::Refused(k) => {
-            zeros::all(machines, times, kinds, steps, matrix, readings, clocks);
-            Answer::Refused(k)
-        }
-        Told::Accepted(known) => answered::answer(
+        Ok(known) => Ok(answered::answer(
             t, b, a, x, c, y, known, machines, times, kinds, steps, matrix, readings, clocks,
-        ),
+        )),
+        Err(refusal) => {
+            zeros::all(machines, times, kinds, steps, matrix, readings, clocks);
+            Err(refusal)
+        }
     }
 }

@@ -59,25 +59,43 @@ unequal (x ∷ xs) (y ∷ ys) h = rest (eqb x y) (unequal xs ys (λ e. h (ap suc
 
 -- ---- bytes
 module _ (s : List ℕ) where
-  bytes_step : {p left : ℕ} {x : Taken} → x ≡ taken_at s p 8 → p ≤ 0x2000000000 → 0 < left → bytes_at s p left ≡ x.value ∷ bytes_at s (p + 8) (left - 1)
+  bytes_step : {p left : ℕ} {x : Taken ℕ} → x ≡ taken_at s p 8 → p ≤ 0x2000000000 → 0 < left → bytes_at s p left ≡ x.value ∷ bytes_at s (p + 8) (left - 1)
   unfolding bytes_at
   bytes_step {p} {left} {x} e l h =
       let n : left ≡ suc (left - 1) = omega arith in
       let v : x.value ≡ number s p 8 = rw (e ∙ take_in s p 8 (omega arith) (omega arith)) in
       ap (bytes_at s p) n ∙ ap (λ (b : ℕ). b ∷ bytes_at s (p + 8) (left - 1)) (sym v)
 
-  module _ (p q : ℕ) {left : ℕ} {x y : Taken} (ex : x ≡ taken_at s p 8) (ey : y ≡ taken_at s q 8) (lp : p + 8 * left ≤ 0x2000000000) (lq : q + 8 * left ≤ 0x2000000000) (h : 0 < left) where
-    pub differ : (x.value ≡ y.value → ⊥) → false ≡ same_bytes (bytes_at s p left) (bytes_at s q left)
-    unfolding same_bytes
-    differ d = rw (bytes_step ex (omega arith) h, bytes_step ey (omega arith) h, ne_eqb x.value y.value d)
+  -- the first of the bytes from byte k on, of n
+  pub cut_off : (a n k : ℕ) {x : Taken ℕ} → x ≡ taken_at s (a + 8 * k) 8 → a + 8 * k ≤ 0x2000000000 → k < n → bytes_at s (a + 8 * k) (n - k) ≡ x.value ∷ bytes_at s (a + 8 * (k + 1)) (n - (k + 1))
+  cut_off a n k ex l h =
+      let p : a + 8 * k + 8 ≡ a + 8 * (k + 1) = omega arith in
+      let m : n - k - 1 ≡ n - (k + 1) = omega arith in
+      let z : 0 < n - k = omega arith in
+      rw (bytes_step ex l z, p, m)
 
-    pub agree : x.value ≡ y.value → same_bytes (bytes_at s p left) (bytes_at s q left) ≡ same_bytes (bytes_at s (p + 8) (left - 1)) (bytes_at s (q + 8) (left - 1))
-    unfolding same_bytes
-    agree d = rw (bytes_step ex (omega arith) h, bytes_step ey (omega arith) h, eq-eqb x.value y.value d)
+  -- what is left of n bytes at a and of those at b, from byte k on
+  module _ (a b n k : ℕ) where
+    module _ {x y : Taken ℕ} (ex : x ≡ taken_at s (a + 8 * k) 8) (ey : y ≡ taken_at s (b + 8 * k) 8) (la : a + 8 * k ≤ 0x2000000000) (lb : b + 8 * k ≤ 0x2000000000) (h : k < n) where
+      pub differ : (x.value ≡ y.value → ⊥) → false ≡ same_bytes (bytes_at s (a + 8 * k) (n - k)) (bytes_at s (b + 8 * k) (n - k))
+      unfolding same_bytes
+      differ d = rw (cut_off a n k ex la h, cut_off b n k ey lb h, ne_eqb x.value y.value d)
 
-  pub none_left : (p q : ℕ) {left : ℕ} → left ≡ 0 → true ≡ same_bytes (bytes_at s p left) (bytes_at s q left)
-  unfolding bytes_at same_bytes
-  none_left p q e = rw e
+      pub agree : x.value ≡ y.value →
+          same_bytes (bytes_at s (a + 8 * (k + 1)) (n - (k + 1))) (bytes_at s (b + 8 * (k + 1)) (n - (k + 1))) ≡ same_bytes (bytes_at s (a + 8 * k) (n - k)) (bytes_at s (b + 8 * k) (n - k))
+      unfolding same_bytes
+      agree d = rw (cut_off a n k ex la h, cut_off b n k ey lb h, eq-eqb x.value y.value d)
+
+    pub none_left : n ≤ k → true ≡ same_bytes (bytes_at s (a + 8 * k) (n - k)) (bytes_at s (b + 8 * k) (n - k))
+    unfolding bytes_at same_bytes
+    none_left h = let z : n - k ≡ 0 = omega arith in rw z
+
+  pub all_left : (a b n : ℕ) → same_bytes (bytes_at s (a + 8 * 0) (n - 0)) (bytes_at s (b + 8 * 0) (n - 0)) ≡ same_bytes (bytes_at s a n) (bytes_at s b n)
+  all_left a b n =
+      let ea : a + 8 * 0 ≡ a = omega arith in
+      let eb : b + 8 * 0 ≡ b = omega arith in
+      let en : n - 0 ≡ n = omega arith in
+      rw (ea, eb, en)
 
   -- ---- paths
   pub length_is : {a : ℕ} {g : Head} → g ≡ head_at s a → a < far → (head_here s a).length ≡ g.length
@@ -142,30 +160,23 @@ module _ (s t : List ℕ) (at : ℕ) {h : Head} {n : ℕ} (eh : h ≡ head_at s 
       let b : n - 0 ≡ n = omega arith in
       rw (a, b, path_bytes)
 
-  module _ (i : ℕ) {x : Taken} (el : n ≡ length t) (ex : x ≡ taken_at s (at + 15 + 8 * i) 8) (l : i < n) where
+  module _ (i : ℕ) {x : Taken ℕ} (el : n ≡ length t) (ex : x ≡ taken_at s (at + 15 + 8 * i) 8) (l : i < n) where
     close : at + 15 + 8 * i ≤ 0x2000000000
     close = omega (arith, path_near (omega arith), small)
       where
         small : h.length < 256
         small = rw (eh ∙ head_near s at (path_near (omega arith))) (number_lt s (at + 3 + 1 + 3) 8)
 
-    cut_off : bytes_at s (at + 15 + 8 * i) (n - i) ≡ x.value ∷ bytes_at s (at + 15 + 8 * (i + 1)) (n - (i + 1))
-    cut_off =
-        let a : at + 15 + 8 * i + 8 ≡ at + 15 + 8 * (i + 1) = omega arith in
-        let b : n - i - 1 ≡ n - (i + 1) = omega arith in
-        let z : 0 < n - i = omega arith in
-        rw (bytes_step s ex close z, a, b)
-
     cut_text : drop i t ≡ get_or t i 0 ∷ drop (i + 1) t
     cut_text = let q : i < length t = omega arith in rw (add-one, drop-cons t i 0)
 
     pub rest_differ : (x.value ≡ get_or t i 0 → ⊥) → false ≡ same_bytes (bytes_at s (at + 15 + 8 * i) (n - i)) (drop i t)
     unfolding same_bytes
-    rest_differ d = rw (cut_off, cut_text, ne_eqb x.value (get_or t i 0) d)
+    rest_differ d = rw (cut_off s (at + 15) n i ex close l, cut_text, ne_eqb x.value (get_or t i 0) d)
 
     pub rest_agree : x.value ≡ get_or t i 0 → same_bytes (bytes_at s (at + 15 + 8 * (i + 1)) (n - (i + 1))) (drop (i + 1) t) ≡ same_bytes (bytes_at s (at + 15 + 8 * i) (n - i)) (drop i t)
     unfolding same_bytes
-    rest_agree d = rw (cut_off, cut_text, eq-eqb x.value (get_or t i 0) d)
+    rest_agree d = rw (cut_off s (at + 15) n i ex close l, cut_text, eq-eqb x.value (get_or t i 0) d)
 
   pub rest_none : (i : ℕ) → n ≡ length t → i ≡ n → true ≡ same_bytes (bytes_at s (at + 15 + 8 * i) (n - i)) (drop i t)
   unfolding same_bytes bytes_at

@@ -1,14 +1,16 @@
 -- Laws of keys in the code's own values: the keys from j on, the keys of the first k sources, and the sources from i on. Assumes nothing.
-use mathlib.Core.Path.{◌≡◌, refl, ap, ◌∙◌}
+use mathlib.Core.Path.{◌≡◌, refl, sym, ap, ◌∙◌}
 use mathlib.Core.Bool.{Bool}
 use mathlib.Core.List.{List, [], ◌∷◌}
 use Prim.Native.Nat.{ℕ, zero, suc, ◌+◌, ◌-◌, ◌*◌, ◌<◌, ◌≤◌}
 use native.Mathlib.Omega.{arith}
-use native.Mathlib.Numerals.{add-one}
 use borrow.Author.Count.{below_more}
 use lib.Dec.{eqb}
-use lib.ListN.{length, take, drop, get_or, set, length-set, drop_of_length-le}
+use lib.ListN.{length, take, drop, get_or, set, length-set}
 use lib.Seq.{drop-cons, get_or-set_same, get_or-set_other}
+use Rattle.std.specs.List.{list_any}
+use Rattle.std.proofs.Math.Decide.{ℕ_discrete}
+use borrow.Author.Tests.{eq-eqb, ne_eqb}
 use Rattle.records.specs.Layout.{source_here}
 use Rattle.records.specs.Readers.{far, source_at}
 use Rattle.records.specs.laws.Fields.{source_near}
@@ -18,12 +20,18 @@ use Rattle.sheet.specs.Places.{every, sources_from}
 use Rattle.sheet.specs.laws.Keys.{key_of, keys_from, Keyed, among_keys}
 use Rattle.sheet.proofs.Again.{sources_step, sources_none}
 
--- ---- the keys from j on
-pub keys_on : (keys : List ℕ) (j : ℕ) → j < length keys → drop j keys ≡ get_or keys j 0 ∷ drop (j + 1) keys
-keys_on keys j h = rw (add-one, drop-cons keys j 0)
+-- ---- whether some key is x, as the library says it and as the definition does
+eqb_sym : (x y : ℕ) → eqb x y ≡ eqb y x
+eqb_sym x y = go (ℕ_discrete x y)
+  where
+    go : Dec (x ≡ y) → eqb x y ≡ eqb y x
+    go (yes e) = rw (eq-eqb x y e, eq-eqb y x (sym e))
+    go (no d) = rw (ne_eqb x y d, ne_eqb y x (λ (e : y ≡ x). d (sym e)))
 
-pub keys_past : (keys : List ℕ) (j : ℕ) → length keys ≤ j → drop j keys ≡ []
-keys_past keys j h = drop_of_length-le keys h
+pub any_among : (x : ℕ) (keys : List ℕ) → list_any (λ y. eqb y x) keys ≡ among eqb x keys
+unfolding among
+any_among x [] = refl
+any_among x (y ∷ ys) = rw (eqb_sym x y, any_among x ys)
 
 module _ (s : List ℕ) (at : ℕ) where
   -- ---- the keys of the first k sources

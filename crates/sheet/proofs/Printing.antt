@@ -2,7 +2,7 @@
 use mathlib.Core.Path.{◌≡◌, sym, ap, ◌∙◌}
 use mathlib.Core.Bool.{Bool}
 use mathlib.Core.List.{List, [], ◌∷◌}
-use Prim.Native.Nat.{ℕ, suc, ◌+◌, ◌-◌, ◌*◌, ◌<◌, ◌≤◌}
+use Prim.Native.Nat.{ℕ, suc, ◌+◌, ◌-◌, ◌*◌, ◌/◌, ◌%◌, ◌<◌, ◌≤◌}
 use native.Mathlib.Omega.{arith}
 use native.Mathlib.Numerals.{add-one}
 use borrow.Author.Count.{below_more}
@@ -22,27 +22,34 @@ use Rattle.sheet.proofs.Again.{length_is, paths_step, paths_none}
 
 module _ (s : List ℕ) where
   -- ---- the print of one path
-  pub print_start : {a n : ℕ} {h : Head} → h ≡ head_at s a → a < far → n ≡ h.length → print_of s (a + 15) n ≡ print_here s a
+  pub print_start : {a n : ℕ} {h : Head} → h ≡ head_at s a → a < far → n ≡ h.length → print_from s n (a + 15 + 64 * 0) (n / 8 - 0) (n % 8) ≡ print_here s a
   unfolding print_here
-  print_start {a} eh l en = ap (print_of s (a + 15)) (en ∙ sym (length_is s eh l))
+  print_start {a} {n} eh l en =
+      let p : a + 15 + 64 * 0 ≡ a + 15 = omega arith in
+      let m : n / 8 - 0 ≡ n / 8 = omega arith in
+      rw (p, m) (ap (print_of s (a + 15)) (en ∙ sym (length_is s eh l)))
 
-  module _ (print p r : ℕ) {left v : ℕ} {x : Taken} where
-    pub print_more : x ≡ taken_at s p 64 → p ≤ 0x2000000000 → 0 < left → v ≡ step print x.value → print_from s v (p + 64) (left - 1) r ≡ print_from s print p left r
+  -- what is left after k of m fields of eight bytes, and r bytes after them
+  module _ (a m r k print : ℕ) where
+    pub print_more : {v : ℕ} {x : Taken ℕ} → x ≡ taken_at s (a + 64 * k) 64 → a + 64 * k ≤ 0x2000000000 → k < m → v ≡ step print x.value →
+        print_from s v (a + 64 * (k + 1)) (m - (k + 1)) r ≡ print_from s print (a + 64 * k) (m - k) r
     unfolding print_from
-    print_more ex l h ev =
-        let n : left ≡ suc (left - 1) = omega arith in
-        let e : x.value ≡ number s p 64 = rw (ex ∙ take_in s p 64 (omega arith) (omega arith)) in
-        ap (λ (w : ℕ). print_from s w (p + 64) (left - 1) r) (ev ∙ ap (step print) e) ∙ sym (ap (λ (k : ℕ). print_from s print p k r) n)
+    print_more {v} {x} ex l h ev =
+        let n : m - k ≡ suc (m - (k + 1)) = omega arith in
+        let p : a + 64 * (k + 1) ≡ a + 64 * k + 64 = omega arith in
+        let e : x.value ≡ number s (a + 64 * k) 64 = rw (ex ∙ take_in s (a + 64 * k) 64 (omega arith) (omega arith)) in
+        rw p (ap (λ (w : ℕ). print_from s w (a + 64 * k + 64) (m - (k + 1)) r) (ev ∙ ap (step print) e) ∙ sym (ap (λ (j : ℕ). print_from s print (a + 64 * k) j r) n))
 
-    pub print_end : x ≡ taken_at s p (8 * r) → p ≤ 0x2000000000 → r < 8 → left ≡ 0 → v ≡ step print x.value → v ≡ print_from s print p left r
+    pub print_end : {v : ℕ} {x : Taken ℕ} → x ≡ taken_at s (a + 64 * m) (8 * r) → a + 64 * m ≤ 0x2000000000 → r < 8 → k ≡ m → v ≡ step print x.value → v ≡ print_from s print (a + 64 * k) (m - k) r
     unfolding print_from
-    print_end ex l h z ev =
-        let e : x.value ≡ number s p (8 * r) = rw (ex ∙ take_in s p (8 * r) (omega arith) (omega arith)) in
-        rw z (ev ∙ ap (step print) e)
+    print_end {v} {x} ex l h z ev =
+        let n : m - k ≡ 0 = omega arith in
+        let e : x.value ≡ number s (a + 64 * m) (8 * r) = rw (ex ∙ take_in s (a + 64 * m) (8 * r) (omega arith) (omega arith)) in
+        rw (n, z) (ev ∙ ap (step print) e)
 
   -- ---- the places and the prints of the files
-  pub place_is : {places : List ℕ} {p k n : ℕ} → places ≡ file_places s n → n ≤ 32 → k < n → p ≡ get_or places k 0 → p ≡ place_of s 0 k
-  place_is {places} {p} {k} {n} e m h ep = ep ∙ ap (λ (l : List ℕ). get_or l k 0) e ∙ places_at s n k m h
+  pub place_is : {places : List ℕ} {k n : ℕ} → places ≡ file_places s n → n ≤ 32 → k < n → get_or places k 0 ≡ place_of s 0 k
+  place_is {places} {k} {n} e m h = ap (λ (l : List ℕ). get_or l k 0) e ∙ places_at s n k m h
 
   pub place_low : {p k : ℕ} → p ≡ place_of s 0 k → k < 32 → p < far
   place_low {p} {k} e h = omega (arith, place_near s k)

@@ -3,7 +3,7 @@ use Rattle.std.specs.Prelude.{◌≡◌, refl, List, ℕ, ◌+◌, ◌*◌, ◌<
 use Rattle.std.proofs.Common.{sym, ap, ◌∙◌, arith}
 use Rattle.records.specs.Layout.{Record, head_here, file_here, source_here, snapshot_here, event_here}
 use Rattle.records.specs.Readers.{head_at, source_at, snapshot_at, event_at, path_at}
-use Rattle.records.specs.Faults.{step_at}
+use Rattle.records.specs.Faults.{step_at, End}
 use Rattle.records.specs.States.{start, Fit}
 use Rattle.records.specs.laws.States.{fit_start}
 use Rattle.records.specs.laws.Fields.{head_near, source_near, snapshot_near, event_near, path_near}
@@ -11,9 +11,8 @@ use Rattle.records.specs.declared.State.{State}
 use Rattle.records.specs.declared.Source.{Source}
 use Rattle.records.specs.declared.Snapshot.{Snapshot}
 use Rattle.records.specs.declared.Event.{Event}
-use Rattle.records.specs.declared.Step.TheVariants.{End}
 use Rattle.sheet.specs.Lists.{files_of, paths_of, sources_of, snapshots_of, events_of}
-use Rattle.sheet.specs.Sheets.{records, sheet_of, table_of, read_of}
+use Rattle.sheet.specs.Sheets.{records, sheet_of, table_of, read_of, Sheet, Refused, Listed}
 use Rattle.sheet.specs.Places.{place_of, file_places}
 use Rattle.sheet.specs.Meaning.{Stands, Repeated, Answers, by_size, by_record, by_twice, by_all}
 use Rattle.sheet.specs.laws.Ended.{table_at}
@@ -23,8 +22,6 @@ use Rattle.sheet.specs.laws.Places.{place_near, places_at}
 use Rattle.sheet.specs.laws.Decides.{read_answers, ends_so}
 use Rattle.sheet.specs.laws.Valid.{GoodSource, GoodSnapshot, GoodEvent, sources_good, snapshots_good, events_good}
 use Rattle.sheet.specs.declared.Table.{Table}
-use Rattle.sheet.specs.declared.Sheet.{Sheet}
-use Rattle.sheet.specs.declared.Sheet.TheVariants.{Refused, Listed}
 
 pub record Accepted (s : List ℕ) (t : Table) : Type 0 where
   -- the records, the state at the end, and that nothing is there twice

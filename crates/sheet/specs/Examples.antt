@@ -6,9 +6,8 @@ use Rattle.records.specs.Readers.{head_at, path_at}
 use Rattle.records.specs.Faults.{fault_of, after_end, step_for, step_at}
 use Rattle.sheet.specs.Lists.{files_of, paths_of, sources_of, snapshots_of, events_of}
 use Rattle.sheet.specs.Twice.{among, repeats, same_bytes, again}
-use Rattle.sheet.specs.Sheets.{records_from, sheet_of, files_size, judged, read_of}
+use Rattle.sheet.specs.Sheets.{records_from, sheet_of, files_size, judged, read_of, Refused, Listed}
 use Rattle.sheet.specs.Places.{place_of, from, file_places}
-use Rattle.sheet.specs.declared.Sheet.TheVariants.{Refused, Listed}
 
 -- sheet `00`: accepted, nothing in it
 nothing : read_of (0x00 ∷ []) ≡ Listed (record { files = 0; sources = record { count = 0; at = 0 }; snapshots = record { count = 0; at = 0 }; events = record { count = 0; at = 0 } })

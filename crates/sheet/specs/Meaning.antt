@@ -1,15 +1,12 @@
 -- The words of the theorems: what it is that records stand in a sheet, that a list holds something twice, and that a sheet has an answer. Assumes nothing.
 use Rattle.std.specs.Prelude.{◌≡◌, Bool, false, ◌⊎◌, List, [], ◌∷◌, ℕ, ◌≤◌, ◌<◌, length, get_or}
 use Rattle.records.specs.Layout.{Record, file, source, snapshot, event, ending, unknown, record_at}
-use Rattle.records.specs.Faults.{step_at}
+use Rattle.records.specs.Faults.{step_at, Next, End, Bad}
 use Rattle.records.specs.States.{start}
 use Rattle.records.specs.declared.State.{State}
 use Rattle.records.specs.declared.Source.{Source}
-use Rattle.records.specs.declared.Step.TheVariants.{Next, End, Bad}
 use Rattle.sheet.specs.Lists.{paths_of, sources_of}
-use Rattle.sheet.specs.Sheets.{table_of}
-use Rattle.sheet.specs.declared.Sheet.{Sheet}
-use Rattle.sheet.specs.declared.Sheet.TheVariants.{Refused, Listed}
+use Rattle.sheet.specs.Sheets.{table_of, Sheet, Refused, Listed}
 
 -- from st on stand the records rs, no number applies in any of them, and e is the state after them
 pub data Stands (s : List ℕ) : State → List Record → State → Type 0 where

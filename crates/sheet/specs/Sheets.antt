@@ -1,16 +1,14 @@
 -- A sheet is the list of its records, or refused by the first record in which one of 26 to 30 applies; 25 comes before, 31 after. Assumes nothing.
-use Rattle.std.specs.Prelude.{Bool, ◌||◌, List, [], ◌∷◌, ℕ, zero, suc, ◌+◌, ◌*◌, eqb, ltb, length}
+use Rattle.std.specs.Prelude.{Result, Ok, Err, Bool, ◌||◌, List, [], ◌∷◌, ℕ, zero, suc, ◌+◌, ◌*◌, eqb, ltb, length}
+use Rattle.refusals.specs.Refusals.{number}
+use Rattle.refusals.specs.declared.Refusal.{Refusal}
 use Rattle.records.specs.Layout.{Record, file, source, snapshot, event, ending, unknown, pick, record_at, size_of}
-use Rattle.records.specs.Faults.{step_at}
+use Rattle.records.specs.Faults.{step_at, Step, Next, End, Bad}
 use Rattle.records.specs.States.{start}
 use Rattle.records.specs.declared.State.{State}
-use Rattle.records.specs.declared.Step.{Step}
-use Rattle.records.specs.declared.Step.TheVariants.{Next, End, Bad}
 use Rattle.sheet.specs.Lists.{files_of, sources_of, snapshots_of, events_of}
 use Rattle.sheet.specs.Twice.{again}
 use Rattle.sheet.specs.declared.Table.{Table}
-use Rattle.sheet.specs.declared.Sheet.{Sheet}
-use Rattle.sheet.specs.declared.Sheet.TheVariants.{Refused, Listed}
 
 -- the records, or the refusal
 pub data Out : Type 0 where
@@ -56,6 +54,16 @@ table_of rs =
       snapshots = record { count = length (snapshots_of rs); at = files_size rs + 40 * length (sources_of rs) };
       events = record { count = length (events_of rs); at = files_size rs + 40 * length (sources_of rs) + 142 * length (snapshots_of rs) };
     }
+
+-- what reading a sheet gives: a refusal's number, or the table
+pub data Sheet : Type 0 where
+  Refused : ℕ → Sheet
+  Listed : Table → Sheet
+
+-- which of these the code's result is
+abbrev pub told : Result Table Refusal → Sheet
+told (Ok t) = Listed t
+told (Err r) = Refused (number r)
 
 -- 31 comes after the records
 unfoldable pub judged : Out → Sheet

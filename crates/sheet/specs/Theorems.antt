@@ -2,15 +2,14 @@
 use Rattle.std.specs.Prelude.{◌≡◌, true, List, [], ℕ, ◌+◌, ◌≤◌, ◌<◌, length, get_or}
 use Rattle.std.proofs.Common.{ap, ◌∙◌, arith}
 use Rattle.records.specs.Layout.{Record, unknown}
-use Rattle.records.specs.Faults.{step_at, is_container}
+use Rattle.records.specs.Faults.{step_at, is_container, End, Bad}
 use Rattle.records.specs.States.{start, step_of}
 use Rattle.records.specs.laws.States.{fit_start, fit_step}
 use Rattle.records.specs.declared.State.{State}
 use Rattle.records.specs.declared.Source.{Source}
-use Rattle.records.specs.declared.Step.TheVariants.{End, Bad}
 use Rattle.sheet.specs.Lists.{files_of}
 use Rattle.sheet.specs.Twice.{repeats, same_bytes, same_source}
-use Rattle.sheet.specs.Sheets.{refused, records, sheet_of, read_of}
+use Rattle.sheet.specs.Sheets.{refused, records, sheet_of, read_of, Sheet}
 use Rattle.sheet.specs.Meaning.{Stands, Twice, no_source, Answers, flag_of, kind_of}
 use Rattle.sheet.specs.laws.Reads.{stands_reads, fit_end}
 use Rattle.sheet.specs.laws.Listed.{Counts, counts}
@@ -19,7 +18,6 @@ use Rattle.sheet.specs.laws.Decides as Decides
 use Rattle.sheet.specs.laws.Decides.{Found}
 use Rattle.sheet.specs.laws.Order as Order
 use Rattle.sheet.specs.laws.Flags as Flags
-use Rattle.sheet.specs.declared.Sheet.{Sheet}
 
 -- ---- the answer
 

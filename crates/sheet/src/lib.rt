@@ -1,24 +1,25 @@
 // A sheet: the refusals 25 to 31, or a table of where its records lie.
 #![tactic(auto)]
 
-ghost use Rattle.std.specs.Prelude.{◌≡◌, ◌+◌, ◌-◌, ◌*◌, ◌<◌, ◌≤◌, length, eqb};
+ghost use Rattle.std.specs.Prelude.{◌≡◌, ◌+◌, ◌-◌, ◌*◌, ◌<◌, ◌≤◌, length};
 ghost use Rattle.records.specs.Layout.{bytes_at, path_here, file_here, size_of};
 ghost use Rattle.records.specs.Readers.{path_at};
 ghost use Rattle.sheet.specs.Twice.{same_bytes, same_source, among, repeats};
 ghost use Rattle.sheet.specs.Places.{paths_from, sources_from, place_of, file_places};
-ghost use Rattle.sheet.specs.Sheets.{read_of};
-ghost use Rattle.sheet.specs.laws.Ended.{Held, ended_of, table_at};
+ghost use Rattle.sheet.specs.Sheets.{told, read_of};
+ghost use Rattle.sheet.specs.laws.Ended.{Held, told_end, ended_of, table_at};
 ghost use Rattle.sheet.specs.laws.Prints.{step, print_here, Printed};
 ghost use Rattle.sheet.specs.laws.Keys.{key_of, Keyed};
 
 use bits::Cursor;
-use records::{Source, State, Step};
+use records::{Fault, Source, State};
+use refusals::Refusal;
 
 // The longest sheet, in bytes. It stands here alone: nothing below rests on it.
 const LONGEST: usize = 65536;
 
 // Records of one kind that have one size: how many there are, and the bit position of the first.
-#[derive(Clone, Copy)]
+#[derive(Clone, Copy, Debug, PartialEq, Eq)]
 pub struct Run {
     pub count: usize,
     pub at: usize,
@@ -27,7 +28,7 @@ pub struct Run {
 // An accepted sheet. Kinds never go down and files start at bit 0, so these seven numbers are the whole table: source i lies 40 * i bits
 // after the first, snapshot i 142 * i, event i 75 * i, and each is read where it is asked for. There is nothing to fill, to copy
 // or to lend, and nothing to promise of memory past the last record.
-#[derive(Clone, Copy)]
+#[derive(Clone, Copy, Debug, PartialEq, Eq)]
 pub struct Table {
     pub files: usize,
     pub sources: Run,
@@ -35,72 +36,18 @@ pub struct Table {
     pub events: Run,
 }
 
-// What reading a sheet gives.
-#[derive(Clone, Copy)]
-pub enum Sheet {
-    Refused(u8),
-    Listed(Table),
-}
-
-// Where reading ended: the fault, or 0 at the end record, and the state before that record.
-#[derive(Clone, Copy)]
-struct Ended {
-    fault: u8,
-    state: State,
-}
-
-// A number of 8 bits where one of 64 is asked for.
-fn wide(x: u8) -> usize
-    ensures { result ≡ x }
-{
-    x as usize
-}
-
-// A place as a position is.
-fn place(x: u32) -> usize
-    ensures { result ≡ x }
-{
-    x as usize
-}
-
-// A byte as a field is.
-fn byte(x: u8) -> u64
-    ensures { result ≡ x }
-{
-    x as u64
-}
-
-// All records: where reading ended.
-fn scan(s: &[u8]) -> Ended
+// All records: the state before the end record, or the first refusal.
+fn scan(s: &[u8]) -> Result<State, Refusal>
     requires { length s.now ≤ 0xffffffff }
-    ensures { result ≡ ended_of s.now }
+    ensures { told_end result ≡ ended_of s.now }
 {
-    let mut st = State {
-        at: 0,
-        last: 0,
-        files: 0,
-        containers: 0,
-        sources: 0,
-        snapshots: 0,
-        events: 0,
-    };
+    let mut st = State::default();
     loop {
         match records::step_over(s, st) {
-            Step::Next(n) => {
-                st = n;
-            }
-            Step::End => {
-                return Ended {
-                    fault: 0,
-                    state: st,
-                };
-            }
-            Step::Bad(k) => {
-                return Ended {
-                    fault: k,
-                    state: st,
-                };
-            }
+            Ok(Some(next)) => st = next,
+            Ok(None) => return Ok(st),
+            Err(Fault::Refused(refusal)) => return Err(refusal),
+            Err(Fault::NoState) => unreachable!(),
         }
     }
 }
@@ -110,20 +57,12 @@ fn same_bytes(s: &[u8], a: usize, b: usize, n: usize) -> bool
     requires { (a + 8 * n ≤ 0x2000000000) × (b + 8 * n ≤ 0x2000000000) }
     ensures { result ≡ same_bytes (bytes_at s.now a n) (bytes_at s.now b n) }
 {
-    let mut p = a;
-    let mut q = b;
-    let mut left = n;
-    while 0 < left {
-        let x = Cursor { at: p }.take(s, 8);
-        let y = Cursor { at: q }.take(s, 8);
-        let u = x.value;
-        let v = y.value;
-        if u != v {
+    for k in 0..n {
+        let x = Cursor { at: a + 8 * k }.take(s, 8);
+        let y = Cursor { at: b + 8 * k }.take(s, 8);
+        if x.value != y.value {
             return false;
         }
-        p += 8;
-        q += 8;
-        left -= 1;
     }
     true
 }
@@ -138,12 +77,7 @@ fn paths_match(s: &[u8], a: usize, x: u64, b: usize, y: u64) -> bool
     }
     let g = records::head_at(s, a);
     let h = records::head_at(s, b);
-    let n = g.length;
-    let m = h.length;
-    if n != m {
-        return false;
-    }
-    same_bytes(s, a + 15, b + 15, wide(n))
+    g.length == h.length && same_bytes(s, a + 15, b + 15, usize::from(g.length))
 }
 
 // Whether the path of the file at a bit position is t.
@@ -151,21 +85,17 @@ pub fn same_path(s: &[u8], at: usize, t: &[u8]) -> bool
     ensures { result ≡ same_bytes (path_at s.now at) t.now }
 {
     let h = records::head_at(s, at);
-    let n = wide(h.length);
-    if n != t.len() {
+    if usize::from(h.length) != t.len() {
         return false;
     }
-    let mut i: usize = 0;
-    while i < n {
+    for (i, b) in t.iter().enumerate() {
         let x = Cursor {
             at: at + 15 + 8 * i,
         }
         .take(s, 8);
-        let u = x.value;
-        if u != byte(t[i]) {
+        if x.value != u64::from(*b) {
             return false;
         }
-        i += 1;
     }
     true
 }
@@ -176,28 +106,19 @@ fn past_file(s: &[u8], a: usize) -> usize
     ensures { (result ≡ a + size_of (file_here s.now a)) × (result ≤ a + 2055) }
 {
     let h = records::head_at(s, a);
-    a + (15 + 8 * wide(h.length))
-}
-
-// How many of n files have a place: at most 32.
-fn few(n: usize) -> usize
-    ensures { (result ≤ n) × (result ≤ 32) × (result < 32 → result ≡ n) }
-{
-    if n < 32 { n } else { 32 }
+    a + (15 + 8 * usize::from(h.length))
 }
 
 // The bit position of each of the first n files, and 0 past them, so that each is reached in one step.
 pub fn file_places(s: &[u8], n: usize) -> [u32; 32]
     ensures { result ≡ file_places s.now n }
 {
-    let most = few(n);
-    let mut places = [0u32; 32];
-    let mut i: usize = 0;
-    let mut p: usize = 0;
-    while i < most {
+    let mut places = [0; 32];
+    let mut p = 0;
+    let most = n.min(32);
+    for i in 0..most {
         places[i] = p as u32;
         p = past_file(s, p);
-        i += 1;
     }
     places
 }
@@ -216,19 +137,21 @@ fn print_of(s: &[u8], a: usize) -> u64
     requires { a < 0x1000000000 }
     ensures { result ≡ print_here s.now a }
 {
-    let h = records::head_at(s, a);
-    let n = wide(h.length);
+    let n = usize::from(records::head_at(s, a).length);
+    let eights = n / 8;
     let mut print = n as u64;
-    let mut p = a + 15;
-    let mut left = n / 8;
-    while 0 < left {
-        let x = Cursor { at: p }.take(s, 64);
+    for k in 0..eights {
+        let x = Cursor {
+            at: a + 15 + 64 * k,
+        }
+        .take(s, 64);
         print = with_field(print, x.value);
-        p += 64;
-        left -= 1;
     }
-    let y = Cursor { at: p }.take(s, (8 * (n % 8)) as u32);
-    with_field(print, y.value)
+    let rest = Cursor {
+        at: a + 15 + 64 * eights,
+    }
+    .take(s, (8 * (n % 8)) as u32);
+    with_field(print, rest.value)
 }
 
 // The prints of the paths of the first n files, whose places are known.
@@ -236,11 +159,9 @@ fn print_paths(s: &[u8], n: usize, places: &[u32; 32]) -> [u64; 32]
     requires { (n ≤ 32) × (places.now ≡ file_places s.now n) }
     ensures { Printed s.now result n }
 {
-    let mut prints = [0u64; 32];
-    let mut k: usize = 0;
-    while k < n {
-        prints[k] = print_of(s, place(places[k]));
-        k += 1;
+    let mut prints = [0; 32];
+    for path in 0..n {
+        prints[path] = print_of(s, places[path] as usize);
     }
     prints
 }
@@ -250,14 +171,11 @@ fn path_again(s: &[u8], i: usize, n: usize, places: &[u32; 32], prints: &[u64; 3
     requires { (i < n) × (n ≤ 32) × (places.now ≡ file_places s.now n) × Printed s.now prints.now n }
     ensures { result ≡ among same_bytes (path_here s.now (place_of s.now 0 i)) (paths_from s.now (place_of s.now 0 (i + 1)) (n - (i + 1))) }
 {
-    let a = place(places[i]);
-    let x = prints[i];
-    let mut j = i + 1;
-    while j < n {
-        if paths_match(s, a, x, place(places[j]), prints[j]) {
+    let a = places[i] as usize;
+    for j in i + 1..n {
+        if paths_match(s, a, prints[i], places[j] as usize, prints[j]) {
             return true;
         }
-        j += 1;
     }
     false
 }
@@ -269,12 +187,10 @@ fn paths_twice(s: &[u8], n: usize) -> bool
 {
     let places = file_places(s, n);
     let prints = print_paths(s, n, &places);
-    let mut file: usize = 0;
-    while file < n {
+    for file in 0..n {
         if path_again(s, file, n, &places, &prints) {
             return true;
         }
-        file += 1;
     }
     false
 }
@@ -285,7 +201,7 @@ fn paths_twice(s: &[u8], n: usize) -> bool
 fn key_of(x: Source) -> u64
     ensures { result ≡ key_of x }
 {
-    byte(x.file.0) * 0x1_0000_0000 + x.id as u64
+    u64::from(x.file.0) * 0x1_0000_0000 + u64::from(x.id)
 }
 
 // The keys of the n sources from bit position `from` on.
@@ -293,27 +209,11 @@ fn source_keys(s: &[u8], from: usize, n: usize) -> [u64; 32]
     requires { (n ≤ 32) × (from + 40 * n < 0x1000000000) }
     ensures { Keyed s.now from result n }
 {
-    let mut keys = [0u64; 32];
-    let mut source: usize = 0;
-    while source < n {
+    let mut keys = [0; 32];
+    for source in 0..n {
         keys[source] = key_of(records::source_at(s, from + 40 * source));
-        source += 1;
     }
     keys
-}
-
-// Whether a key is one of some keys.
-fn is_among(key: u64, keys: &[u64]) -> bool
-    ensures { result ≡ among eqb key keys.now }
-{
-    let mut j: usize = 0;
-    while j < keys.len() {
-        if key == keys[j] {
-            return true;
-        }
-        j += 1;
-    }
-    false
 }
 
 // 31 of sources: whether two of the n sources from bit position `from` on have one file and id.
@@ -322,13 +222,10 @@ fn sources_twice(s: &[u8], from: usize, n: usize) -> bool
     ensures { result ≡ repeats same_source (sources_from s.now from n) }
 {
     let keys = source_keys(s, from, n);
-    let mut source: usize = 0;
-    while source < n {
-        let later = source + 1;
-        if is_among(keys[source], &keys[later..n]) {
+    for i in 0..n {
+        if keys[i + 1..n].contains(&keys[i]) {
             return true;
         }
-        source = later;
     }
     false
 }
@@ -338,48 +235,36 @@ fn table_at(st: State) -> Table
     requires { Held st }
     ensures { result ≡ table_at st }
 {
-    let e = st.at - 75 * st.events;
-    let n = e - 142 * st.snapshots;
-    let o = n - 40 * st.sources;
+    let events = st.at - 75 * st.events;
+    let snapshots = events - 142 * st.snapshots;
+    let sources = snapshots - 40 * st.sources;
     Table {
         files: st.files,
         sources: Run {
             count: st.sources,
-            at: o,
+            at: sources,
         },
         snapshots: Run {
             count: st.snapshots,
-            at: n,
+            at: snapshots,
         },
         events: Run {
             count: st.events,
-            at: e,
+            at: events,
         },
     }
 }
 
-// The refusal, 25 to 31, or the counts and places of the records.
-pub fn read(s: &[u8]) -> Sheet
-    ensures { result ≡ read_of s.now }
+// The counts and places of the records, or the refusal, 25 to 31.
+pub fn read(s: &[u8]) -> Result<Table, Refusal>
+    ensures { told result ≡ read_of s.now }
 {
-    if s.len() == 0 {
-        return Sheet::Refused(25);
+    if s.is_empty() || LONGEST < s.len() {
+        return Err(Refusal::SheetEmptyOrTooLong);
     }
-    if LONGEST < s.len() {
-        return Sheet::Refused(25);
+    let table = table_at(scan(s)?);
+    if paths_twice(s, table.files) || sources_twice(s, table.sources.at, table.sources.count) {
+        return Err(Refusal::PathOrSourceTwice);
     }
-    let e = scan(s);
-    let k = e.fault;
-    if k != 0 {
-        return Sheet::Refused(k);
-    }
-    let st = e.state;
-    let t = table_at(st);
-    if paths_twice(s, t.files) {
-        return Sheet::Refused(31);
-    }
-    if sources_twice(s, t.sources.at, t.sources.count) {
-        return Sheet::Refused(31);
-    }
-    Sheet::Listed(t)
+    Ok(table)
 }

@@ -4,59 +4,31 @@
 // case. `=` is as many zero bytes as bring the sheet to 65,536 bytes. Any other byte is passed over.
 #![tactic(auto)]
 
-ghost use Rattle.std.specs.Prelude.{◌≡◌, ◌<◌, ◌≤◌, length, IfOk};
+ghost use Rattle.std.specs.Prelude.{◌≡◌, ◌≤◌, length};
 
-use sheet::{Run, Sheet, Table};
+use numbers::File;
+use records::{Head, Source};
+use sheet::{Run, Table};
 use std::io;
 use std::io::Read;
 
-// A byte that a line stands for, and the position past it.
-#[derive(Clone, Copy)]
-struct Piece {
-    byte: u8,
-    past: usize,
-}
+// The most bytes that are read of the input.
+const ROOM: u64 = 65536;
 
-// The position of the first byte b from a position on, below an end; else the end.
-fn find(s: &[u8], b: u8, from: usize, end: usize) -> usize
-    requires { (from ≤ end) × (end ≤ length s.now) }
-    ensures { (from ≤ result) × (result ≤ end) }
-{
-    let mut i = from;
-    while i < end {
-        if s[i] == b {
-            return i;
-        }
-        i += 1;
-    }
-    i
-}
-
-// The value of a hexadecimal digit; 16 of any other byte, a bit that no digit has.
-fn digit(b: u8) -> u8 {
+// The value of a hexadecimal digit; None of any other byte.
+fn digit(b: u8) -> Option<u8> {
     match b {
-        b'0'..=b'9' => b - b'0',
-        b'a'..=b'f' => b - b'a' + 10,
-        _ => 16,
+        b'0'..=b'9' => Some(b - b'0'),
+        b'a'..=b'f' => Some(b - b'a' + 10),
+        _ => None,
     }
 }
 
-// The byte that two digits at a position stand for, and the position past them, which is the same one where there are none.
-fn piece_at(s: &[u8], at: usize, end: usize) -> Piece
-    requires { (at < end) × (end ≤ length s.now) }
-    ensures { result.past ≤ end }
-{
-    if end - at > 1 {
-        let high = digit(s[at]);
-        let low = digit(s[at + 1]);
-        if (high | low) < 16 {
-            return Piece {
-                byte: high << 4 | low,
-                past: at + 2,
-            };
-        }
-    }
-    Piece { byte: 0, past: at }
+// The byte that the two digits at the head of a text stand for, where it has two.
+fn pair(s: &[u8]) -> Option<u8> {
+    let high = digit(*s.first()?)?;
+    let low = digit(*s.get(1)?)?;
+    Some(high << 4 | low)
 }
 
 // How long a sheet of n bytes is past a byte of the line that is in no pair: `=` brings it to 65,536 bytes.
@@ -64,25 +36,27 @@ fn filled(n: usize, b: u8) -> usize
     requires { n ≤ 65537 }
     ensures { result ≤ 65537 }
 {
-    if b == b'=' && n < 65536 { 65536 } else { n }
+    if b == b'=' { n.max(65536) } else { n }
 }
 
-// The sheet that a part of a line stands for, as far as there is room; how many bytes it has. The room is zeros, so that `=` has nothing to write.
-fn bytes(s: &[u8], from: usize, end: usize, m: &mut [u8; 65537]) -> usize
-    requires { (from ≤ end) × (end ≤ length s.now) × (length m.old ≡ 65537) }
+// The sheet that a text stands for, as far as there is room; how many bytes it has. The room is zeros, so that `=` has nothing to write.
+fn bytes(s: &[u8], m: &mut [u8; 65537]) -> usize
+    requires { length m.old ≡ 65537 }
     ensures { (result ≤ 65537) × (length m.new ≡ 65537) }
 {
-    let mut i = from;
-    let mut n: usize = 0;
-    while i < end && n < 65537 {
-        let p = piece_at(s, i, end);
-        if i < p.past {
-            m[n] = p.byte;
-            n += 1;
-            i = p.past;
-        } else {
-            n = filled(n, s[i]);
-            i += 1;
+    let mut i = 0;
+    let mut n = 0;
+    while i < s.len() && n < m.len() {
+        match pair(&s[i..]) {
+            Some(byte) => {
+                m[n] = byte;
+                n += 1;
+                i += 2;
+            }
+            None => {
+                n = filled(n, s[i]);
+                i += 1;
+            }
         }
     }
     n
@@ -112,35 +86,26 @@ fn tell_table(rt: &impl Print, t: Table) -> io::Result<()> {
 fn tell(rt: &impl Print, name: &[u8], m: &[u8]) -> io::Result<()> {
     rt.write_all(name)?;
     match sheet::read(m) {
-        Sheet::Refused(k) => {
-            tell_number(rt, b": refused ", k as u64)?;
-        }
-        Sheet::Listed(t) => {
-            tell_table(rt, t)?;
-        }
+        Ok(t) => tell_table(rt, t)?,
+        Err(refusal) => tell_number(rt, b": refused ", u64::from(refusal.number()))?,
     }
     rt.write_all(b"\n")
 }
 
 // A line of the input that is neither empty nor a comment. The colon is no digit, so that it may stay in front of the bytes.
-fn line(rt: &impl Print, s: &[u8], from: usize, end: usize) -> io::Result<()>
-    requires { (from ≤ end) × (end ≤ length s.now) }
-{
-    let colon = find(s, b':', from, end);
-    let mut m: [u8; 65537] = [0; 65537];
-    let n = bytes(s, colon, end, &mut m);
-    tell(rt, &s[from..colon], &m[..n])
+fn line(rt: &impl Print, s: &[u8]) -> io::Result<()> {
+    let colon = s.iter().position(|b| *b == b':').unwrap_or(s.len());
+    let mut m = [0; 65537];
+    let n = bytes(&s[colon..], &mut m);
+    tell(rt, &s[..colon], &m[..n])
 }
 
 // Every line of the input.
 fn each(rt: &impl Print, s: &[u8]) -> io::Result<()> {
-    let mut at: usize = 0;
-    while at < s.len() {
-        let end = find(s, b'\n', at, s.len());
-        if at < end && s[at] != b'#' {
-            line(rt, s, at, end)?;
+    for text in s.split(|b| *b == b'\n') {
+        if text.first().is_some_and(|b| *b != b'#') {
+            line(rt, text)?;
         }
-        at = end + 1;
     }
     Ok(())
 }
@@ -160,17 +125,21 @@ fn read_places(rt: &impl Print, s: &[u8]) -> io::Result<()> {
     let places = sheet::file_places(s, 2);
     told(
         rt,
-        (places[0] == 0) & (places[1] == 23) & (places[2] == 0),
+        places[0] == 0 && places[1] == 23 && places[2] == 0,
         b"the places of two files",
     )
 }
 
 // The head of a file that is not the first.
 fn read_head(rt: &impl Print, s: &[u8]) -> io::Result<()> {
-    let h = records::head_at(s, 23);
+    let head = Head {
+        container: true,
+        claim: 0,
+        length: 2,
+    };
     told(
         rt,
-        h.container & (h.claim == 0) & (h.length == 2),
+        records::head_at(s, 23) == head,
         b"the second file, a container with no claim",
     )
 }
@@ -184,10 +153,13 @@ fn read_path(rt: &impl Print, s: &[u8]) -> io::Result<()> {
 
 // A source with the highest id.
 fn read_source(rt: &impl Print, s: &[u8]) -> io::Result<()> {
-    let o = records::source_at(s, 94);
+    let source = Source {
+        file: File(0),
+        id: u32::MAX,
+    };
     told(
         rt,
-        (o.file.0 == 0) & (o.id == 4294967295),
+        records::source_at(s, 94) == source,
         b"the second source",
     )
 }
@@ -197,12 +169,12 @@ fn read_snapshot(rt: &impl Print, s: &[u8]) -> io::Result<()> {
     let n = records::snapshot_at(s, 134);
     told(
         rt,
-        (n.source == 1) & (n.clock == 1) & (n.reading == -1),
+        n.source == 1 && n.clock == 1 && n.reading == -1,
         b"the snapshot, on its first clock",
     )?;
     told(
         rt,
-        (n.clock2 == 2) & (n.reading2 == 5),
+        n.clock2 == 2 && n.reading2 == 5,
         b"the snapshot, on its second clock",
     )
 }
@@ -212,12 +184,12 @@ fn read_event(rt: &impl Print, s: &[u8]) -> io::Result<()> {
     let e = records::event_at(s, 276);
     told(
         rt,
-        (e.source == 0) & (e.clock == 0),
+        e.source == 0 && e.clock == 0,
         b"the event, on the private clock",
     )?;
     told(
         rt,
-        e.reading == -9223372036854775807 - 1,
+        e.reading == i64::MIN,
         b"the event, at the lowest reading",
     )
 }
@@ -234,24 +206,9 @@ fn read_back(rt: &impl Print) -> io::Result<()> {
     read_event(rt, s)
 }
 
-// Reads until a buffer is full or the input ends; how many bytes the buffer has then.
-fn read_full(input: &mut impl Read, buf: &mut [u8]) -> io::Result<usize>
-    ensures { IfOk result (λ n. n ≤ length buf.new) }
-{
-    let mut done: usize = 0;
-    while done < buf.len() {
-        let n = input.read(&mut buf[done..])?;
-        if n == 0 {
-            break;
-        }
-        done += n;
-    }
-    Ok(done)
-}
-
 fn main(rt: HostRuntime) -> io::Result<()> {
-    let mut space = [0u8; 65536];
-    let n = read_full(&mut rt.reader(), &mut space)?;
-    each(&rt, &space[..n])?;
+    let mut input = Vec::new(rt.alloc());
+    rt.reader().take(ROOM).read_to_end(&mut input)?;
+    each(&rt, &input)?;
     read_back(&rt)
 }

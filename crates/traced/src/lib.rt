@@ -4,19 +4,12 @@
 ghost use Rattle.std.specs.Prelude.{◌≡◌, ◌<◌};
 ghost use Rattle.merged.specs.Refusals.{is_pinned};
 ghost use Rattle.merged.specs.Timeline.{bits_of, claims as claims_of, domain_clock, claimed as claimed_of, trace_by};
-ghost use Rattle.checks.specs.Table.{file_by, files_in, facts_by};
+ghost use Rattle.checks.specs.Table.{file_by, facts_by};
 ghost use Rattle.traced.specs.laws.Files.{claim_from};
 
+use checks::{BASE, CLAIM, CONTAINER, PINNED, TIE};
 use manifest::Timeline;
 use numbers::{Clock, File, Machine};
-
-// How many files the table holds.
-fn files(t: &[u32; 324]) -> usize
-    ensures { result ≡ files_in t.now }
-{
-    let n = t[0];
-    if n < 32 { n as usize } else { 32 }
-}
 
 // The clock of a domain on a machine; no clock for numbers that are none of these.
 fn clock_of(d: u32, m: u32) -> Clock
@@ -36,26 +29,24 @@ fn claims(t: &[u32; 324], f: usize) -> bool
     requires { f < 32 }
     ensures { result ≡ claims_of (facts_by t.now) (file_by t.now f) }
 {
-    if t[4 + (6 * f + 4)] == 0 {
+    if t[4 + (6 * f + CLAIM)] == 0 {
         return false;
     }
-    if t[4 + (6 * f + 1)] == 2 {
+    if t[4 + (6 * f + TIE)] == PINNED {
         return false;
     }
-    t[4 + (6 * f + 3)] == 0
+    t[4 + (6 * f + CONTAINER)] == 0
 }
 
 // The claimed clock of the first file that claims one; else file 0's private clock.
 fn claimed(t: &[u32; 324]) -> Clock
     ensures { result.0 ≡ claimed_of (facts_by t.now) (claim_from t.now 0) }
 {
-    let n = files(t);
-    let mut f: usize = 0;
-    while f < n {
+    let n = checks::files(t);
+    for f in 0..n {
         if claims(t, f) {
-            return clock_of(t[4 + (6 * f + 4)], t[4 + (6 * f + 2)]);
+            return clock_of(t[4 + (6 * f + CLAIM)], t[4 + (6 * f + BASE)]);
         }
-        f += 1;
     }
     numbers::private_clock(File(0))
 }
@@ -74,12 +65,10 @@ pub fn clock(t: &[u32; 324], asked: Timeline) -> Clock
 pub fn pinned(t: &[u32; 324]) -> u32
     ensures { result ≡ bits_of (λ f. is_pinned f.tie) (facts_by t.now).files }
 {
-    let mut k = files(t);
     let mut bits: u32 = 0;
-    while 0 < k {
-        k -= 1;
+    for k in (0..checks::files(t)).rev() {
         bits = 2 * bits;
-        if t[4 + (6 * k + 1)] == 2 {
+        if t[4 + (6 * k + TIE)] == PINNED {
             bits += 1;
         }
     }

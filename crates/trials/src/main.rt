@@ -4,12 +4,14 @@
 
 ghost use Rattle.std.specs.Prelude.{◌≤◌};
 
+use merged::Summary;
+use refusals::Refusal;
 use std::io;
 
 // Writes the lines of an answer. The memory fits every answer (docs/MEMORY.md).
 fn write_lines(
     rt: &impl Print,
-    answer: merged::Answer,
+    answer: Result<Summary, Refusal>,
     times: &[i64],
     kinds: &[u8],
     steps: &[u16],
@@ -134,37 +136,8 @@ fn logs(rt: &impl Print) -> io::Result<()> {
 }
 
 // Whether all is zeros.
-fn zero_bytes(xs: &[u8]) -> bool {
-    let mut i: usize = 0;
-    while i < xs.len() {
-        if xs[i] != 0 {
-            return false;
-        }
-        i += 1;
-    }
-    true
-}
-
-fn zero_words(xs: &[u16]) -> bool {
-    let mut i: usize = 0;
-    while i < xs.len() {
-        if xs[i] != 0 {
-            return false;
-        }
-        i += 1;
-    }
-    true
-}
-
-fn zero_times(xs: &[i64]) -> bool {
-    let mut i: usize = 0;
-    while i < xs.len() {
-        if xs[i] != 0 {
-            return false;
-        }
-        i += 1;
-    }
-    true
+fn is_zero<T: Copy + Default + PartialEq>(xs: &[T]) -> bool {
+    xs.iter().all(|x| *x == T::default())
 }
 
 fn word(rt: &impl Print, zero: bool) -> io::Result<()> {
@@ -175,29 +148,25 @@ fn word(rt: &impl Print, zero: bool) -> io::Result<()> {
     }
 }
 
-// Both of two tests that are made: no branch where there are many memories.
-fn both(a: bool, b: bool) -> bool {
-    if a { b } else { false }
-}
-
 // Writes an answer's lines, and whether the outputs are all zeros.
 fn tell_outputs(
     rt: &impl Print,
-    answer: merged::Answer,
+    answer: Result<Summary, Refusal>,
     machines: &[u8],
     times: &[i64],
     kinds: &[u8],
     steps: &[u16],
 ) -> io::Result<()> {
     write_lines(rt, answer, times, kinds, steps)?;
-    let first = both(zero_bytes(machines), zero_times(times));
-    word(rt, both(first, both(zero_bytes(kinds), zero_words(steps))))
+    word(
+        rt,
+        is_zero(machines) && is_zero(times) && is_zero(kinds) && is_zero(steps),
+    )
 }
 
 // Writes whether the work memories are all zeros.
 fn tell_work(rt: &impl Print, matrix: &[u8], readings: &[i64], clocks: &[u16]) -> io::Result<()> {
-    let last = both(zero_times(readings), zero_words(clocks));
-    word(rt, both(zero_bytes(matrix), last))
+    word(rt, is_zero(matrix) && is_zero(readings) && is_zero(clocks))
 }
 
 // Merges the log's example with the memories that are lent here; then one line for the outputs and one for the work memories.

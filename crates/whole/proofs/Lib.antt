@@ -1,6 +1,5 @@
 -- Laws that only the proofs of functions cite.
 pub mod Patterns
-pub mod Exact
 pub mod Found
 pub mod laws
 pub mod Examples

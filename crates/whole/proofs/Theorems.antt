@@ -1,8 +1,7 @@
 -- What is proved of the definitions in Whole and Pairs, in words that need no search. Assumes nothing.
-use Rattle.std.specs.Prelude.{◌≡◌, ℕ, ◌^◌, ◌<◌, ◌≤◌, ◌⊎◌, List, [], length, ℤ, pos, ◌+ℤ◌, ◌-ℤ◌, neg_ℤ, ◌≤ℤ◌, ◌<ℤ◌, FitsSigned, int_lt, nat_lt, refl}
+use Rattle.std.specs.Prelude.{◌≡◌, ℕ, ◌^◌, ◌<◌, ◌≤◌, ◌⊎◌, List, [], length, ℤ, pos, ◌+ℤ◌, ◌-ℤ◌, neg_ℤ, ◌≤ℤ◌, ◌<ℤ◌, FitsSigned, int_lt, nat_lt, refl, Some, None}
 use Rattle.std.proofs.Common.{sym, ◌∙◌}
 use Rattle.std.specs.Int.{w64}
-use Rattle.whole.specs.declared.Sum.TheVariants.{In, Out}
 use Rattle.whole.specs.Whole.{Within, shifted_of, excess, of_excess}
 use Rattle.whole.specs.Pairs.{Pair, xs_of, ys_of, pairs, place_for, carried_by, converted, converted_back, nth, Carries}
 use Rattle.whole.proofs.laws.Range.{fits_within, within_fits, outside_out, out_outside}
@@ -22,22 +21,22 @@ within_i64 = within_fits
 
 -- ---- the exact sum
 
--- The answer is In u exactly if t + y - x is u and 64 bits hold u.
-pub sum_in : (t x y u : ℤ) → t +ℤ y -ℤ x ≡ u → Within u → shifted_of t x y ≡ In u
+-- The answer is Some u exactly if t + y - x is u and 64 bits hold u.
+pub sum_in : (t x y u : ℤ) → t +ℤ y -ℤ x ≡ u → Within u → shifted_of t x y ≡ Some u
 sum_in t x y u e w = shifted_in t x y u e (within_fits u w)
 
-pub in_sum : (t x y u : ℤ) → shifted_of t x y ≡ In u → (t +ℤ y -ℤ x ≡ u) × Within u
+pub in_sum : (t x y u : ℤ) → shifted_of t x y ≡ Some u → (t +ℤ y -ℤ x ≡ u) × Within u
 in_sum t x y u e = let k = in_shifted t x y u e in (k.0, fits_within u k.1)
 
--- It is Out exactly if t + y - x is below -2^63, or 2^63 or more.
-pub sum_out : (t x y : ℤ) → ((t +ℤ y -ℤ x) <ℤ neg_ℤ (pos (2 ^ 63))) ⊎ (pos (2 ^ 63) ≤ℤ (t +ℤ y -ℤ x)) → shifted_of t x y ≡ Out
+-- It is None exactly if t + y - x is below -2^63, or 2^63 or more.
+pub sum_out : (t x y : ℤ) → ((t +ℤ y -ℤ x) <ℤ neg_ℤ (pos (2 ^ 63))) ⊎ (pos (2 ^ 63) ≤ℤ (t +ℤ y -ℤ x)) → shifted_of t x y ≡ None
 sum_out t x y o = shifted_is t x y ∙ outside_out (t +ℤ y -ℤ x) o
 
-pub out_sum : (t x y : ℤ) → shifted_of t x y ≡ Out → ((t +ℤ y -ℤ x) <ℤ neg_ℤ (pos (2 ^ 63))) ⊎ (pos (2 ^ 63) ≤ℤ (t +ℤ y -ℤ x))
+pub out_sum : (t x y : ℤ) → shifted_of t x y ≡ None → ((t +ℤ y -ℤ x) <ℤ neg_ℤ (pos (2 ^ 63))) ⊎ (pos (2 ^ 63) ≤ℤ (t +ℤ y -ℤ x))
 out_sum t x y e = out_outside (t +ℤ y -ℤ x) (sym (shifted_is t x y) ∙ e)
 
 -- A reading that (x, y) carries over is carried back by (y, x).
-pub back : (t x y u : ℤ) → Within t → shifted_of t x y ≡ In u → shifted_of u y x ≡ In t
+pub back : (t x y u : ℤ) → Within t → shifted_of t x y ≡ Some u → shifted_of u y x ≡ Some t
 back t x y u w e = shifted_back t x y u (within_fits t w) e
 
 -- ---- keys
@@ -82,7 +81,7 @@ pub pairs_are : (ps : List Pair) → pairs (xs_of ps) (ys_of ps) ≡ ps
 pairs_are = pairs_of
 
 -- Without a correspondence nothing carries t.
-pub convert_none : (t : ℤ) → converted t [] ≡ Out
+pub convert_none : (t : ℤ) → converted t [] ≡ None
 unfolding converted carried_by
 convert_none t = refl
 

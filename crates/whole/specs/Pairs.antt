@@ -1,9 +1,5 @@
 -- A list of correspondences, which of them carries a reading, and the reading on the other clock. Assumes nothing.
-use Rattle.std.specs.Prelude.{◌≡◌, ℕ, suc, ◌<◌, Bool, cond, ◌&&◌, List, [], ◌∷◌, map, length, ℤ, pos, ◌≤ℤ◌, ◌<ℤ◌, int_le, int_lt, slice_index_or}
-use Rattle.std.proofs.Math.Option.{Option, none, some}
-use Rattle.std.proofs.Math.ListN.{get_elem?}
-use Rattle.whole.specs.declared.Sum.{Sum}
-use Rattle.whole.specs.declared.Sum.TheVariants.{Out}
+use Rattle.std.specs.Prelude.{◌≡◌, ℕ, suc, ◌<◌, Bool, cond, ◌&&◌, List, [], ◌∷◌, map, length, ℤ, pos, ◌≤ℤ◌, ◌<ℤ◌, int_le, int_lt, slice_get, slice_index_or, Option, Some, None}
 use Rattle.whole.specs.Whole.{shifted_of}
 
 -- a correspondence: where the one clock reads x, the other reads y
@@ -41,16 +37,16 @@ place_for t [] = 0
 place_for t (x ∷ xs) = place_from t 0 x 1 xs
 
 -- t carried by a correspondence; without one, nothing carries it
-unfoldable pub carried_by : ℤ → Option Pair → Sum
-carried_by t none = Out
-carried_by t (some p) = shifted_of t p.x p.y
+unfoldable pub carried_by : ℤ → Option Pair → Option ℤ
+carried_by t None = None
+carried_by t (Some p) = shifted_of t p.x p.y
 
 -- t on the other clock
-unfoldable pub converted : ℤ → List Pair → Sum
-converted t ps = carried_by t (get_elem? ps (place_for t (xs_of ps)))
+unfoldable pub converted : ℤ → List Pair → Option ℤ
+converted t ps = carried_by t (slice_get ps (place_for t (xs_of ps)))
 
 -- "Backwards, x and y swap."
-unfoldable pub converted_back : ℤ → List Pair → Sum
+unfoldable pub converted_back : ℤ → List Pair → Option ℤ
 converted_back u ps = converted u (map swapped ps)
 
 -- the reading at a place of a list

@@ -1,10 +1,9 @@
 -- Worked examples, by computing: the lines that document 01 names, and numbers where the count of digits changes and at the ends of their range. Assumes nothing.
-use Rattle.std.specs.Prelude.{◌≡◌, refl, [], ◌∷◌, ◌++◌, pos, negsuc}
+use Rattle.std.specs.Prelude.{◌≡◌, refl, [], ◌∷◌, ◌++◌, pos, negsuc, None, Some}
 use Prim.Native.String.{String}
 use Rattle.text.specs.Reading.{Text, pick}
 use Rattle.manifest.specs.Names.{bytes}
-use Rattle.merged.specs.declared.Trace.TheVariants.{Nothing, On}
-use Rattle.merged.specs.declared.Answer.TheVariants.{Refused, Merged}
+use Rattle.merged.specs.Answers.{Refused, Merged}
 use Rattle.written.specs.Written.{digits_in, decimal, signed, line_feed, trace_text, first_line, event_line, events_of, event_lines, lines_of}
 
 computed : Unit {0}
@@ -18,7 +17,7 @@ line s = bytes s ++ line_feed
 -- ---- document 01
 
 -- "it writes exactly two lines, `ok files 1 machines 1 trace 5` and `0 at 5 graph 1 steps 0`"
-accepted : first_line (Merged (record { files = 1; machines = 1; events = 1; trace = On (record { 0 = 5 }) })) ≡ line "ok files 1 machines 1 trace 5"
+accepted : first_line (Merged (record { files = 1; machines = 1; events = 1; trace = Some (record { 0 = 5 }) })) ≡ line "ok files 1 machines 1 trace 5"
 unfolding computed
 accepted = refl
 
@@ -41,7 +40,7 @@ unfolding computed
 unrelated = refl
 
 -- "with no file the trace is `-`"
-without_files : first_line (Merged (record { files = 0; machines = 1; events = 0; trace = Nothing })) ≡ line "ok files 0 machines 1 trace -"
+without_files : first_line (Merged (record { files = 0; machines = 1; events = 0; trace = None })) ≡ line "ok files 0 machines 1 trace -"
 unfolding computed
 without_files = refl
 
@@ -51,7 +50,7 @@ unfolding computed
 app_log = refl
 
 -- the two lines, and nothing else
-two_lines : lines_of (Merged (record { files = 1; machines = 1; events = 1; trace = On (record { 0 = 5 }) })) (pos 5 ∷ []) (1 ∷ []) (0 ∷ []) ≡ line "ok files 1 machines 1 trace 5" ++ line "0 at 5 graph 1 steps 0"
+two_lines : lines_of (Merged (record { files = 1; machines = 1; events = 1; trace = Some (record { 0 = 5 }) })) (pos 5 ∷ []) (1 ∷ []) (0 ∷ []) ≡ line "ok files 1 machines 1 trace 5" ++ line "0 at 5 graph 1 steps 0"
 unfolding computed
 two_lines = refl
 

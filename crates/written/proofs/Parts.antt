@@ -1,4 +1,5 @@
 -- The lines by the parts that the functions put, case by case. Assumes nothing.
+use Rattle.std.specs.Prelude.{Option, None, Some}
 use mathlib.Core.Path.{◌≡◌, sym, ap}
 use mathlib.Core.List.{List, ◌++◌, append_assoc}
 use Prim.Native.Nat.{ℕ, ◌-◌, ◌≤◌, ◌<◌}
@@ -7,18 +8,15 @@ use borrow.Author.Tests.{lt-ltb, le-ltb}
 use Rattle.text.specs.laws.Readers.{pick_true, pick_false}
 use Rattle.manifest.specs.Names.{bytes}
 use Rattle.numbers.specs.declared.Clock.{Clock}
-use Rattle.merged.specs.declared.Trace.{Trace}
-use Rattle.merged.specs.declared.Trace.TheVariants.{Nothing, On}
 use Rattle.merged.specs.declared.Summary.{Summary}
-use Rattle.merged.specs.declared.Answer.{Answer}
-use Rattle.merged.specs.declared.Answer.TheVariants.{Refused, Merged}
+use Rattle.merged.specs.Answers.{Answer, Refused, Merged}
 use Rattle.written.specs.Written.{decimal, signed, line_feed, trace_text, first_line, event_line}
 
-pub no_trace : {t : Trace} → t ≡ Nothing → bytes "-" ≡ trace_text t
+pub no_trace : {t : Option Clock} → t ≡ None → bytes "-" ≡ trace_text t
 unfolding trace_text
 no_trace e = sym (ap trace_text e)
 
-pub on_clock : {t : Trace} {c : Clock} → t ≡ On c → decimal c.0 ≡ trace_text t
+pub on_clock : {t : Option Clock} {c : Clock} → t ≡ Some c → decimal c.0 ≡ trace_text t
 unfolding trace_text
 on_clock e = sym (ap trace_text e)
 

@@ -1,12 +1,10 @@
 -- The lines of document 01: "it writes exactly two lines, `ok files 1 machines 1 trace 5` and `0 at 5 graph 1 steps 0`. Otherwise `refused N`
 -- alone, or `0 dropped N`; with no file the trace is `-`". As bytes; each line ends in one line feed. Assumes nothing.
-use Rattle.std.specs.Prelude.{List, [], ◌∷◌, ◌++◌, ℕ, zero, suc, ◌+◌, ◌-◌, ◌*◌, ◌/◌, ◌%◌, ltb, leb, ℤ, pos, negsuc, get_or}
+use Rattle.std.specs.Prelude.{List, [], ◌∷◌, ◌++◌, ℕ, zero, suc, ◌+◌, ◌-◌, ◌*◌, ◌/◌, ◌%◌, ltb, leb, ℤ, pos, negsuc, get_or, Option, None, Some}
 use Rattle.text.specs.Reading.{pick}
 use Rattle.manifest.specs.Names.{bytes}
-use Rattle.merged.specs.declared.Trace.{Trace}
-use Rattle.merged.specs.declared.Trace.TheVariants.{Nothing, On}
-use Rattle.merged.specs.declared.Answer.{Answer}
-use Rattle.merged.specs.declared.Answer.TheVariants.{Refused, Merged}
+use Rattle.numbers.specs.declared.Clock.{Clock}
+use Rattle.merged.specs.Answers.{Answer, Refused, Merged}
 
 -- the digits of a number below 10^k, the most significant first, without zeros in front
 unfoldable pub digits_in : ℕ → ℕ → List ℕ
@@ -24,9 +22,9 @@ signed (negsuc n) = 45 ∷ decimal (suc n)
 abbrev pub line_feed : List ℕ
 line_feed = 10 ∷ []
 
-unfoldable pub trace_text : Trace → List ℕ
-trace_text Nothing = bytes "-"
-trace_text (On c) = decimal c.0
+unfoldable pub trace_text : Option Clock → List ℕ
+trace_text None = bytes "-"
+trace_text (Some c) = decimal c.0
 
 -- the first line
 unfoldable pub first_line : Answer → List ℕ

@@ -3,21 +3,23 @@
 
 ghost use Rattle.std.specs.Prelude.{◌≡◌, ◌++◌, ◌+◌, ◌-◌, ◌*◌, ◌≤◌, ◌<◌, pos, length, take, get_or};
 ghost use Rattle.manifest.specs.Names.{bytes};
+ghost use Rattle.merged.specs.Answers.{told};
 ghost use Rattle.merged.specs.Merged.{padded};
 ghost use Rattle.written.specs.Written.{decimal, signed, trace_text, first_line, event_line, events_of, event_lines, lines_in};
 ghost use Rattle.written.specs.laws.Put.{Put};
 
-// A text is put into a line from a place on; the place past it.
-fn put(text: &[u8], at: usize, out: &mut [u8; 96]) -> usize
-    requires { (length out.old ≡ 96) × (at + length text.now ≤ 96) }
+use merged::Summary;
+use numbers::Clock;
+use refusals::Refusal;
+
+// A text is put into a memory from a place on; the place past it.
+fn put(text: &[u8], at: usize, out: &mut [u8]) -> usize
+    requires { at + length text.now ≤ length out.old }
     ensures { Put out.old at text.now result out.new }
 {
-    let mut j: usize = 0;
-    while j < text.len() {
-        out[at + j] = text[j];
-        j += 1;
-    }
-    at + j
+    let end = at + text.len();
+    out[at..end].copy_from_slice(text);
+    end
 }
 
 // The digit of a number below ten.
@@ -78,18 +80,18 @@ fn put_dropped(drop: u8, at: usize, out: &mut [u8; 96]) -> usize
 }
 
 // The trace-time clock is put into a line.
-fn put_trace(trace: merged::Trace, at: usize, out: &mut [u8; 96]) -> usize
+fn put_trace(trace: Option<Clock>, at: usize, out: &mut [u8; 96]) -> usize
     requires { (length out.old ≡ 96) × (at ≤ 32) }
     ensures { (result ≤ at + 5) × Put out.old at (trace_text trace) result out.new }
 {
     match trace {
-        merged::Trace::Nothing => put(b"-", at, out),
-        merged::Trace::On(c) => put_decimal(c.0 as u64, at, out),
+        Some(clock) => put_decimal(clock.0 as u64, at, out),
+        None => put(b"-", at, out),
     }
 }
 
 // What an accepted merge is told by is put at the start of a line.
-fn put_summary(files: u8, machines: u8, trace: merged::Trace, out: &mut [u8; 96]) -> usize
+fn put_summary(files: u8, machines: u8, trace: Option<Clock>, out: &mut [u8; 96]) -> usize
     requires { length out.old ≡ 96 }
     ensures { (result ≤ 37) × Put out.old 0 (bytes "ok files " ++ (decimal files ++ (bytes " machines " ++ (decimal machines ++ (bytes " trace " ++ trace_text trace))))) result out.new }
 {
@@ -102,21 +104,19 @@ fn put_summary(files: u8, machines: u8, trace: merged::Trace, out: &mut [u8; 96]
 }
 
 // The first line of an answer, then zeros; how many bytes the line has.
-pub fn first_line(answer: merged::Answer, out: &mut [u8; 96]) -> usize
-    ensures { (result ≡ length (first_line answer)) × (out.new ≡ padded 0 96 (first_line answer)) }
+pub fn first_line(answer: Result<Summary, Refusal>, out: &mut [u8; 96]) -> usize
+    ensures { (result ≡ length (first_line (told answer))) × (out.new ≡ padded 0 96 (first_line (told answer))) }
 {
-    let zeros: [u8; 96] = [0; 96];
-    *out = zeros;
+    *out = [0; 96];
     match answer {
-        merged::Answer::Refused(n) => {
-            let a = put(b"refused ", 0, out);
-            let b = put_decimal(n as u64, a, out);
-            put(b"\n", b, out)
-        }
-        merged::Answer::Merged(s) => {
-            let trace = s.trace;
-            let a = put_summary(s.files, s.machines, trace, out);
+        Ok(s) => {
+            let a = put_summary(s.files, s.machines, s.trace, out);
             put(b"\n", a, out)
+        }
+        Err(refusal) => {
+            let a = put(b"refused ", 0, out);
+            let b = put_decimal(refusal.number() as u64, a, out);
+            put(b"\n", b, out)
         }
     }
 }
@@ -125,8 +125,7 @@ pub fn first_line(answer: merged::Answer, out: &mut [u8; 96]) -> usize
 pub fn event_line(k: usize, time: i64, kind: u8, steps: u16, out: &mut [u8; 96]) -> usize
     ensures { (result ≡ length (event_line k time kind steps)) × (out.new ≡ padded 0 96 (event_line k time kind steps)) }
 {
-    let zeros: [u8; 96] = [0; 96];
-    *out = zeros;
+    *out = [0; 96];
     let a = put_decimal(k as u64, 0, out);
     if kind < 4 {
         let b = put_placed(time, kind, steps, a, out);
@@ -136,55 +135,31 @@ pub fn event_line(k: usize, time: i64, kind: u8, steps: u16, out: &mut [u8; 96])
     put(b"\n", b, out)
 }
 
-// The first n bytes of a line's memory are put into the memory of all lines; the place past them.
-fn put_in(line: &[u8; 96], n: usize, at: usize, out: &mut [u8]) -> usize
-    requires { (n ≤ length line.now) × (at + 96 ≤ length out.old) }
-    ensures { (result ≤ at + 96) × Put out.old at (take n line.now) result out.new }
-{
-    let text: &[u8] = line;
-    let mut j: usize = 0;
-    while j < n {
-        out[at + j] = text[j];
-        j += 1;
-    }
-    at + j
-}
-
-fn put_first(answer: merged::Answer, out: &mut [u8]) -> usize
+// The first line is put at the front of the memory of all lines.
+fn put_first(answer: Result<Summary, Refusal>, out: &mut [u8]) -> usize
     requires { 96 ≤ length out.old }
-    ensures { (result ≤ 96) × Put out.old 0 (first_line answer) result out.new }
+    ensures { (result ≤ 96) × Put out.old 0 (first_line (told answer)) result out.new }
 {
     let mut line: [u8; 96] = [0; 96];
     let n = first_line(answer, &mut line);
-    put_in(&line, n, 0, out)
+    put(&line[..n], 0, out)
 }
 
-// What a list tells of event k; past its end, zero.
-fn time_at(times: &[i64], k: usize) -> i64
-    ensures { result ≡ get_or times.now k (pos 0) }
+// What a list tells of event k; past its end, what stands for nothing.
+fn told_at<T: Copy>(list: &[T], k: usize, nothing: T) -> T
+    ensures { result ≡ get_or list.now k nothing }
 {
-    if k < times.len() { times[k] } else { 0 }
+    if k < list.len() { list[k] } else { nothing }
 }
 
-fn kind_at(kinds: &[u8], k: usize) -> u8
-    ensures { result ≡ get_or kinds.now k 0 }
-{
-    if k < kinds.len() { kinds[k] } else { 0 }
-}
-
-fn steps_at(steps: &[u16], k: usize) -> u16
-    ensures { result ≡ get_or steps.now k 0 }
-{
-    if k < steps.len() { steps[k] } else { 0 }
-}
-
+// The line of event k is put into the memory of all lines.
 fn put_event(k: usize, time: i64, kind: u8, steps: u16, at: usize, out: &mut [u8]) -> usize
     requires { at + 96 ≤ length out.old }
     ensures { (result ≤ at + 96) × Put out.old at (event_line k time kind steps) result out.new }
 {
     let mut line: [u8; 96] = [0; 96];
     let n = event_line(k, time, kind, steps, &mut line);
-    put_in(&line, n, at, out)
+    put(&line[..n], at, out)
 }
 
 // The lines of the first n events are put from a place on.
@@ -200,43 +175,39 @@ fn put_events<'a>(
     ensures { Put out.old at (event_lines n times.now kinds.now steps.now) result out.new }
 {
     let mut end = at;
-    let mut k: usize = 0;
-    while k < n {
+    for k in 0..n {
         end = put_event(
             k,
-            time_at(times, k),
-            kind_at(kinds, k),
-            steps_at(steps, k),
+            told_at(times, k, 0),
+            told_at(kinds, k, 0),
+            told_at(steps, k, 0),
             end,
             out,
         );
-        k += 1;
     }
     end
 }
 
-fn events_of(answer: merged::Answer) -> usize
-    ensures { result ≡ events_of answer }
+// How many events an answer tells of.
+fn events_of(answer: Result<Summary, Refusal>) -> usize
+    ensures { result ≡ events_of (told answer) }
 {
-    match answer {
-        merged::Answer::Refused(_) => 0,
-        merged::Answer::Merged(s) => s.events,
-    }
+    answer.map_or(0, |s| s.events)
 }
 
 // All lines of an answer, then zeros; how many bytes the lines have. A memory with fewer than 96 bytes for each line gets none.
 pub fn lines<'a>(
-    answer: merged::Answer,
+    answer: Result<Summary, Refusal>,
     times: &'a [i64],
     kinds: &'a [u8],
     steps: &'a [u16],
     out: &mut [u8],
 ) -> usize
-    ensures value { result ≡ length (lines_in (length out.old) answer times.now kinds.now steps.now) }
-    ensures out_after { out.new ≡ padded 0 (length out.old) (lines_in (length out.old) answer times.now kinds.now steps.now) }
+    ensures value { result ≡ length (lines_in (length out.old) (told answer) times.now kinds.now steps.now) }
+    ensures out_after { out.new ≡ padded 0 (length out.old) (lines_in (length out.old) (told answer) times.now kinds.now steps.now) }
     ensures upper_bound { result ≤ length out.new }
 {
-    zeros::bytes(out);
+    out.fill(0);
     let n = events_of(answer);
     if n < out.len() / 96 {
         let at = put_first(answer, out);

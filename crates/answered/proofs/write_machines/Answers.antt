@@ -9,25 +9,13 @@ use Rattle.merged.proofs.laws.Lists.{length_map}
 use Rattle.answered.proofs.write_machines.Goals as goal
 
 pub loop-j-init : goal.loop-j-init
-loop-j-init c = (omega arith, copied_none _ _)
-
-pub offset_bounds-each-j : goal.offset_bounds-each-j
-offset_bounds-each-j c = omega arith
-
-pub bounds-each-j : goal.bounds-each-j
-bounds-each-j c = omega arith
+loop-j-init c = copied_none _ _
 
 pub bounds-machines-j : goal.bounds-machines-j
-bounds-machines-j c = omega (arith, c.loop-j.invariant.1.whole, c.requires)
-
-pub overflow_add-j : goal.overflow_add-j
-overflow_add-j c = omega arith
-
-pub loop-j-smaller : goal.loop-j-smaller
-loop-j-smaller c = omega arith
+bounds-machines-j c = omega (arith, c.loop-j.invariant.whole, c.requires)
 
 pub loop-j-preserved : goal.loop-j-preserved
-loop-j-preserved c = (omega arith, copied_more c.loop-j.invariant.1 (omega (arith, length_map as_byte c.args.each.now)) (omega (arith, c.requires)) (bytes_at c.args.each.now c.loop-j.j c.byte.ensures))
+loop-j-preserved c = copied_more c.loop-j.invariant (omega (arith, length_map as_byte c.args.each.now)) (omega (arith, c.requires)) (bytes_at c.args.each.now c.loop-j.j c.byte.ensures)
 
 pub returns : goal.returns
-returns c = over_zeros 0 (length c.args.machines.now) (map as_byte c.args.each.now) c.bytes.ensures (copied_all c.loop-j.invariant.1 (omega (arith, length_map as_byte c.args.each.now)))
+returns c = over_zeros 0 (length c.args.machines.now) (map as_byte c.args.each.now) (c.fill.ensures.after (λ y h. h)) (copied_all c.loop-j.invariant (omega (arith, length_map as_byte c.args.each.now)))

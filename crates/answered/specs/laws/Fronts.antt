@@ -9,9 +9,6 @@ use Rattle.merged.specs.Machines.{machines_of}
 use Rattle.checks.specs.Table.{facts_by}
 use Rattle.answered.specs.Answered.{as_byte}
 
-pub zero_least : (n : ℕ) → 0 ≤ n
-zero_least n = omega arith
-
 -- zeros past a list are the rest of a memory of zeros
 drop_zeros : {A : Type 0} (z : A) (n k : ℕ) → drop n (replicate k z) ≡ replicate (k - n) z
 drop_zeros z zero k = let e : k - 0 ≡ k = omega arith in ap (λ (j : ℕ). replicate j z) (sym e)

@@ -3,7 +3,7 @@ use Rattle.std.specs.Prelude.{◌≡◌, List, ◌++◌, map, ℕ, ◌-◌, ◌�
 use Rattle.std.proofs.Common.{sym, ap, ◌∙◌, arith, length-take}
 use Rattle.graphs.specs.Graphs.{World}
 use Rattle.clocks.specs.Answers.{Room, Filled, filled}
-use Rattle.merged.specs.declared.Answer.{Answer}
+use Rattle.merged.specs.Answers.{Answer}
 use Rattle.merged.specs.Merged.{padded}
 use Rattle.checks.specs.Machines.{machine_table}
 use Rattle.lines.specs.Lines.{clock_by, events_at, over, reach}
@@ -23,17 +23,17 @@ module _ (t : List ℕ) {each : List ℕ} (e : each ≡ machine_table t) (source
   pub each_within : n ≤ length each
   each_within = omega (arith, ap length e, machines_long t)
 
-  pub each_front : length (take (n - 0) each) ≤ nm
-  each_front = omega (arith, length-take (n - 0) each)
+  pub each_front : length (take n each) ≤ nm
+  each_front = omega (arith, length-take n each)
 
 module _ {t : List ℕ} {each : List ℕ} (e : each ≡ machine_table t) (b : List ℕ) (sources at events : ℕ) (m c : List ℕ) (r : List ℤ) {q n k : ℕ} (eq : q ≡ min 32 (length m)) (en : n ≡ min sources q) (ek : k ≡ min events 0xffffffff) where
   pub marked_so : {m' c' : List ℕ} {r' : List ℤ}
-      → m' ≡ padded 0 (length m) (map as_byte (take (n - 0) each))
+      → m' ≡ padded 0 (length m) (map as_byte (take n each))
       → c' ≡ over (map (clock_by t each) (events_at b at (reach k (length c) (length r)))) c
       → r' ≡ over (map (λ e. e.reading) (events_at b at (reach k (length c) (length r)))) r
       → Marked t b sources at events m c r m' c' r'
   marked_so em ec er =
-      let d : n - 0 ≡ min sources (min 32 (length m)) = omega arith in
+      let d : n ≡ min sources (min 32 (length m)) = omega arith in
       record {
         machines_are = em ∙ (λ i. padded 0 (length m) (map as_byte (take (d i) (e i))));
         clocks_are = ec ∙ (λ i. over (map (clock_by t (e i)) (events_at b at (reach (ek i) (length c) (length r)))) c);

@@ -1,15 +1,15 @@
 -- Laws of fields: when a field is got, and what is known of one that was. Assumes nothing.
 use Rattle.std.proofs.Math.Path.{◌≡◌, refl}
 use Rattle.std.proofs.Common.{sym, ap, subst, ◌∙◌}
-use Rattle.std.specs.Prelude.{Bool, ◌&&◌, List, ℕ, ◌+◌, ◌*◌, ◌^◌, ◌<◌, ◌≤◌, T, ltb}
+use Rattle.std.specs.Prelude.{Bool, ◌&&◌, Some, None, List, ℕ, ◌+◌, ◌*◌, ◌^◌, ◌<◌, ◌≤◌, T, ltb}
 use Rattle.std.proofs.Math.Bool.{true, false, cond}
 use native.Mathlib.Omega.{arith}
 use Rattle.std.proofs.Math.Dec.{leb}
 use Rattle.std.proofs.Math.ListN.{length}
 use borrow.Author.Tests.{le-leb, lt-leb, lt-ltb, le-ltb, leb-true, leb-false, ltb-true}
 use Rattle.bits.specs.declared.Cursor.{Cursor}
-use Rattle.bits.specs.declared.Field.TheVariants.{Got, Cut}
-use Rattle.bits.specs.Bits.{number, may_stand, inside, field_at, taken, taken_at}
+use Rattle.bits.specs.declared.Taken.{Taken}
+use Rattle.bits.specs.Bits.{number, may_stand, inside, end_of, field_at, taken, taken_at}
 use Rattle.bits.specs.laws.Number.{number_append}
 
 pub stand_in : (i w : ℕ) → w ≤ 64 → i + w < 2 ^ 64 → may_stand i w ≡ true
@@ -42,6 +42,21 @@ stands i w e = go (leb w 64) (ltb (i + w) (2 ^ 64)) refl refl e
     go true false p q e = absurd (subst T (sym e) tt)
     go false b p q e = absurd (subst T (sym e) tt)
 
+-- there is a position past it exactly if it may stand there
+pub end_stands : (i w : ℕ) {e : ℕ} → end_of i w ≡ Some e → Stands i w × (e ≡ i + w)
+end_stands i w {e} h = go (may_stand i w) refl h
+  where
+    go : (t : Bool) → may_stand i w ≡ t → cond t (Some (i + w)) None ≡ Some e → Stands i w × (e ≡ i + w)
+    go true q h = (stands i w q, cc)
+    go false q h = let z : ◌≡◌ {A = ℕ} 0 1 = cc in absurd (omega arith)
+
+pub end_none : (i w : ℕ) → end_of i w ≡ None → may_stand i w ≡ false
+end_none i w h = go (may_stand i w) h
+  where
+    go : (t : Bool) → cond t (Some (i + w)) None ≡ None → t ≡ false
+    go true h = let z : ◌≡◌ {A = ℕ} 0 1 = cc in absurd (omega arith)
+    go false h = refl
+
 -- what is known of a field that was got: its number, where the cursor stands, and that the slice has all its bits
 pub record IsGot (s : List ℕ) (i w v : ℕ) (next : Cursor) : Type 0 where
   pub value : v ≡ number s i w
@@ -61,39 +76,46 @@ module _ (s : List ℕ) (i w : ℕ) where
   take_out e = rw e
 
   -- where a field may stand and the slice has all its bits, it is got
-  pub field_in : w ≤ 64 → i + w < 2 ^ 64 → i + w ≤ 8 * length s → field_at s i w ≡ Got (number s i w) (record { at = i + w })
+  pub field_in : w ≤ 64 → i + w < 2 ^ 64 → i + w ≤ 8 * length s → field_at s i w ≡ Some (taken s i w)
   unfolding field_at inside
   field_in h l k = simp (stand_in i w h l, le-leb (i + w) (8 * length s) k)
 
   -- where it may not stand, it is cut
-  pub field_out : may_stand i w ≡ false → field_at s i w ≡ Cut
+  pub field_out : may_stand i w ≡ false → field_at s i w ≡ None
   unfolding field_at
   field_out e = rw e
 
   -- where the slice lacks a bit, it is cut
-  pub field_short : 8 * length s < i + w → field_at s i w ≡ Cut
+  pub field_short : 8 * length s < i + w → field_at s i w ≡ None
   unfolding field_at inside
   field_short k = go (may_stand i w) refl
     where
-      go : (a : Bool) → may_stand i w ≡ a → cond (a && leb (i + w) (8 * length s)) (Got (number s i w) (record { at = i + w })) Cut ≡ Cut
+      go : (a : Bool) → may_stand i w ≡ a → cond (a && leb (i + w) (8 * length s)) (Some (taken s i w)) None ≡ None
       go true e = simp (lt-leb (i + w) (8 * length s) k)
       go false e = refl
 
   -- a field that is got is this one
-  pub field_got : {v : ℕ} {next : Cursor} → field_at s i w ≡ Got v next → IsGot s i w v next
+  pub field_got : {v : ℕ} {next : Cursor} → field_at s i w ≡ Some (record { value = v; next = next }) → IsGot s i w v next
   unfolding field_at inside
   field_got {v} {next} e = go (may_stand i w) (leb (i + w) (8 * length s)) refl refl e
     where
       apart : ◌≡◌ {A = ℕ} 0 1 → ⊥
       apart z = omega arith
 
-      go : (a b : Bool) → may_stand i w ≡ a → leb (i + w) (8 * length s) ≡ b → cond (a && b) (Got (number s i w) (record { at = i + w })) Cut ≡ Got v next → IsGot s i w v next
-      go true true p q e = record { value = cc; past = cc; stand = stands i w p; whole = leb-true (i + w) (8 * length s) q }
+      go : (a b : Bool) → may_stand i w ≡ a → leb (i + w) (8 * length s) ≡ b → cond (a && b) (Some (taken s i w)) None ≡ Some (record { value = v; next = next }) → IsGot s i w v next
+      go true true p q e =
+          let g : taken s i w ≡ record { value = v; next = next } = cc in
+          record {
+            value = sym (ap (λ (t : Taken ℕ). t.value) g);
+            past = sym (ap (λ (t : Taken ℕ). t.next) g);
+            stand = stands i w p;
+            whole = leb-true (i + w) (8 * length s) q;
+          }
       go true false p q e = let z : ◌≡◌ {A = ℕ} 0 1 = cc in absurd (apart z)
       go false b p q e = let z : ◌≡◌ {A = ℕ} 0 1 = cc in absurd (apart z)
 
   -- a field that may stand there and is cut lacks a bit
-  pub field_cut : w ≤ 64 → i + w < 2 ^ 64 → field_at s i w ≡ Cut → 8 * length s < i + w
+  pub field_cut : w ≤ 64 → i + w < 2 ^ 64 → field_at s i w ≡ None → 8 * length s < i + w
   field_cut h l e = go (leb (i + w) (8 * length s)) refl
     where
       go : (t : Bool) → leb (i + w) (8 * length s) ≡ t → 8 * length s < i + w
@@ -101,11 +123,11 @@ module _ (s : List ℕ) (i w : ℕ) where
       go false q = leb-false (i + w) (8 * length s) q
 
   -- where a field is got, taking it gives the same
-  pub take_got : {v : ℕ} {next : Cursor} → field_at s i w ≡ Got v next → taken_at s i w ≡ record { value = v; next = next }
+  pub take_got : {v : ℕ} {next : Cursor} → field_at s i w ≡ Some (record { value = v; next = next }) → taken_at s i w ≡ record { value = v; next = next }
   take_got e = let g = field_got e in rw (g.value, g.past) (take_in g.stand.narrow g.stand.near)
 
 -- two fields got one after the other are one field
-pub field_joined : (s : List ℕ) (i a b : ℕ) {v x : ℕ} {c d : Cursor} → a + b ≤ 64 → field_at s i a ≡ Got v c → field_at s c.at b ≡ Got x d → field_at s i (a + b) ≡ Got (v * 2 ^ b + x) d
+pub field_joined : (s : List ℕ) (i a b : ℕ) {v x : ℕ} {c d : Cursor} → a + b ≤ 64 → field_at s i a ≡ Some (record { value = v; next = c }) → field_at s c.at b ≡ Some (record { value = x; next = d }) → field_at s i (a + b) ≡ Some (record { value = v * 2 ^ b + x; next = d })
 field_joined s i a b {v} {x} {c} {d} h e f =
     let g = field_got s i a e in
     let at : c.at ≡ i + a = ap (λ (k : Cursor). k.at) g.past in

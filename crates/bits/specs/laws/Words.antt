@@ -1,8 +1,10 @@
 -- Laws of reading many bits at once: bytes in a row as one number, and 64 bits that start within a byte. Assumes nothing.
-use Rattle.std.specs.Prelude.{◌≡◌, List, ℕ, ◌+◌, ◌-◌, ◌*◌, ◌/◌, ◌%◌, ◌^◌, ◌<◌, ◌≤◌, get_or}
+use Rattle.std.specs.Prelude.{◌≡◌, List, [], ◌∷◌, ℕ, ◌+◌, ◌-◌, ◌*◌, ◌/◌, ◌%◌, ◌^◌, ◌<◌, ◌≤◌, get_or}
 use Rattle.std.proofs.Common.{sym, ap, ◌∙◌, arith, pow-add, shl_lt}
 use Rattle.std.proofs.Math.Pow.{shr_mod, low}
+use Rattle.std.specs.Int.{w64, from_be_bytes}
 use Rattle.bits.specs.Bits.{number}
+use Rattle.bits.specs.BigEndian.{Bytes}
 use Rattle.bits.specs.laws.Number.{number_lt, number_append, number_byte, in_byte}
 
 module _ (s : List ℕ) (i : ℕ) where
@@ -12,20 +14,18 @@ module _ (s : List ℕ) (i : ℕ) where
       let e : 8 * i + 8 * n ≡ 8 * (i + n) = omega arith in
       number_append s (8 * i) (8 * n) 8 ∙ rw (e, number_byte s (i + n) h)
 
-  -- four bytes are 32 bits
-  pub four_bytes : get_or s i 0 < 256 → get_or s (i + 1) 0 < 256 → get_or s (i + 2) 0 < 256 → get_or s (i + 3) 0 < 256 → number s (8 * i) 32 ≡ get_or s i 0 * 16777216 + get_or s (i + 1) 0 * 65536 + get_or s (i + 2) 0 * 256 + get_or s (i + 3) 0
-  four_bytes a b c d =
-      let one : number s (8 * i) 8 ≡ get_or s i 0 = number_byte s i a in
-      let two : number s (8 * i) 16 ≡ number s (8 * i) 8 * 256 + get_or s (i + 1) 0 = byte_more 1 b in
-      let three : number s (8 * i) 24 ≡ number s (8 * i) 16 * 256 + get_or s (i + 2) 0 = byte_more 2 c in
-      let four : number s (8 * i) 32 ≡ number s (8 * i) 24 * 256 + get_or s (i + 3) 0 = byte_more 3 d in
+  -- eight bytes, the first the most significant, are 64 bits
+  pub eight_bytes : Bytes s → from_be_bytes w64 (get_or s i 0 ∷ get_or s (i + 1) 0 ∷ get_or s (i + 2) 0 ∷ get_or s (i + 3) 0 ∷ get_or s (i + 4) 0 ∷ get_or s (i + 5) 0 ∷ get_or s (i + 6) 0 ∷ get_or s (i + 7) 0 ∷ []) ≡ number s (8 * i) 64
+  eight_bytes b =
+      let one : number s (8 * i) 8 ≡ get_or s i 0 = number_byte s i (b i) in
+      let two : number s (8 * i) 16 ≡ number s (8 * i) 8 * 256 + get_or s (i + 1) 0 = byte_more 1 (b (i + 1)) in
+      let three : number s (8 * i) 24 ≡ number s (8 * i) 16 * 256 + get_or s (i + 2) 0 = byte_more 2 (b (i + 2)) in
+      let four : number s (8 * i) 32 ≡ number s (8 * i) 24 * 256 + get_or s (i + 3) 0 = byte_more 3 (b (i + 3)) in
+      let five : number s (8 * i) 40 ≡ number s (8 * i) 32 * 256 + get_or s (i + 4) 0 = byte_more 4 (b (i + 4)) in
+      let six : number s (8 * i) 48 ≡ number s (8 * i) 40 * 256 + get_or s (i + 5) 0 = byte_more 5 (b (i + 5)) in
+      let seven : number s (8 * i) 56 ≡ number s (8 * i) 48 * 256 + get_or s (i + 6) 0 = byte_more 6 (b (i + 6)) in
+      let eight : number s (8 * i) 64 ≡ number s (8 * i) 56 * 256 + get_or s (i + 7) 0 = byte_more 7 (b (i + 7)) in
       omega arith
-
-  -- two fours are 64 bits
-  pub eight_bytes : number s (8 * i) 64 ≡ number s (8 * i) 32 * 4294967296 + number s (8 * (i + 4)) 32
-  eight_bytes =
-      let e : 8 * i + 32 ≡ 8 * (i + 4) = omega arith in
-      number_append s (8 * i) 32 32 ∙ rw e
 
   module _ (r : ℕ) (h : r ≤ 8) where
     -- eight bytes shifted up by r in a word: the first r bits are lost, and the 64 - r after them stand over r zeros

@@ -8,10 +8,10 @@ use Rattle.checks.proofs.enrol.Goals as goal
 pub returns-then-not-by_id : goal.returns-then-not-by_id
 returns-then-not-by_id c = enrolled_other (facts_by c.args.t.now) (source_by c.args.t.now c.args.j) c.args.ids.now c.args.n c.requires.2 (sym c.by_id.ensures ∙ c.if-not-by_id.true)
 
-pub returns-then-place-n : goal.returns-then-place-n
+pub returns-then-place_of-n : goal.returns-then-place_of-n
 unfolding source_by
-returns-then-place-n c = enrolled_again (facts_by c.args.t.now) (source_by c.args.t.now c.args.j) c.args.ids.now c.args.n c.requires.2 (sym c.by_id.ensures ∙ c.if-not-by_id.false) c.source_number-id.result c.place_of-place.result c.source_number-id.ensures c.place_of-place.ensures c.if-place-n.true
+returns-then-place_of-n c = enrolled_again (facts_by c.args.t.now) (source_by c.args.t.now c.args.j) c.args.ids.now c.args.n c.requires.2 (sym c.by_id.ensures ∙ c.if-not-by_id.false) c.source_number-id.result c.place_of.result c.source_number-id.ensures c.place_of.ensures c.if-place_of-n.true
 
 pub returns : goal.returns
 unfolding source_by
-returns c = enrolled_new (facts_by c.args.t.now) (source_by c.args.t.now c.args.j) c.args.ids.now c.args.n c.requires.2 (sym c.by_id.ensures ∙ c.if-not-by_id.false) c.source_number-id.result c.place_of-place.result c.source_number-id.ensures c.place_of-place.ensures c.if-place-n.false c.requires.1
+returns c = enrolled_new (facts_by c.args.t.now) (source_by c.args.t.now c.args.j) c.args.ids.now c.args.n c.requires.2 (sym c.by_id.ensures ∙ c.if-not-by_id.false) c.source_number-id.result c.place_of.result c.source_number-id.ensures c.place_of.ensures c.if-place_of-n.false c.requires.1

@@ -1,8 +1,8 @@
--- `checks::files` meets its contract: the first number, cut at 32.
--- Assumes nothing.
+-- `checks::files` meets its contract: a table tells of 32 at most. Assumes nothing.
+use borrow.Author.Rules.{rules}
 use Rattle.checks.specs.Table.{files_in}
 use Rattle.checks.proofs.files.Goals as goal
 
 pub returns : goal.returns
 unfolding files_in
-returns c = c.held.ensures
+returns c = search rules

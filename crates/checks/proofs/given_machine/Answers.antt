@@ -1,13 +1,11 @@
--- `checks::given_machine` meets its contract: the machine counts where the source's kind says whole or named.
--- Assumes nothing.
-use Rattle.checks.specs.laws.Told.{given_1, given_2, given_else}
+-- `checks::given_machine` meets its contract: a machine is given where what is said names one. Assumes nothing.
+use mathlib.Core.Path.{refl, sym, ◌∙◌}
+use Rattle.text.specs.laws.Readers.{pick_true, pick_false}
+use Rattle.checks.specs.laws.Told.{given_so}
 use Rattle.checks.proofs.given_machine.Goals as goal
 
-pub returns-then-said-eq1 : goal.returns-then-said-eq1
-returns-then-said-eq1 c = given_1 c.args.t.now c.args.j c.source_number-said.ensures c.source_number-machine.ensures c.if-said-eq1.true
-
-pub returns-then-said-eq2 : goal.returns-then-said-eq2
-returns-then-said-eq2 c = given_2 c.args.t.now c.args.j c.source_number-said.ensures c.source_number-machine.ensures c.if-said-eq1.false c.if-said-eq2.true
+pub returns-then-has_machine : goal.returns-then-has_machine
+returns-then-has_machine c = sym (pick_true _ _ c.if-has_machine.true) ∙ given_so c.args.t.now c.args.j c.source_number.ensures c.source_number-then-has_machine.ensures c.has_machine.ensures
 
 pub returns : goal.returns
-returns c = given_else c.args.t.now c.args.j c.source_number-said.ensures c.source_number-machine.ensures c.if-said-eq1.false c.if-said-eq2.false
+returns c = sym (pick_false _ _ c.if-has_machine.false) ∙ given_so c.args.t.now c.args.j c.source_number.ensures refl c.has_machine.ensures

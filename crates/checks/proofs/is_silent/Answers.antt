@@ -1,13 +1,17 @@
--- `checks::is_silent` meets its contract: the kinds 1 to 3 say something.
--- Assumes nothing.
-use Rattle.checks.specs.laws.Told.{silent_1, silent_2, silent_else}
+-- `checks::is_silent` meets its contract: what is said is none of three numbers. Assumes nothing.
+use mathlib.Core.Path.{sym, ap, ◌∙◌}
+use mathlib.Core.Bool.{Bool, not, ◌&&◌}
+use lib.Dec.{eqb}
+use Rattle.checks.specs.laws.Told.{silent_is_so}
 use Rattle.checks.proofs.is_silent.Goals as goal
 
-pub returns-then-said-eq1 : goal.returns-then-said-eq1
-returns-then-said-eq1 c = silent_1 c.args.t.now c.args.j c.source_number-said.ensures c.if-said-eq1.true
+pub returns-then-not-has_machine : goal.returns-then-not-has_machine
+returns-then-not-has_machine c =
+    ap (λ (b : Bool). not b && not (eqb c.source_number-said.result 3)) (sym c.if-not-has_machine.true)
+    ∙ silent_is_so c.args.t.now c.args.j c.source_number-said.ensures c.has_machine.ensures
 
-pub returns-then-said-eq2 : goal.returns-then-said-eq2
-returns-then-said-eq2 c = silent_2 c.args.t.now c.args.j c.source_number-said.ensures c.if-said-eq1.false c.if-said-eq2.true
-
-pub returns : goal.returns
-returns c = silent_else c.args.t.now c.args.j c.source_number-said.ensures c.if-said-eq1.false c.if-said-eq2.false
+pub returns-else-not-has_machine : goal.returns-else-not-has_machine
+returns-else-not-has_machine c =
+    ap not c.if-not-has_machine.false
+    ∙ (ap (λ (b : Bool). not b && not (eqb c.source_number-said.result 3)) (sym c.if-not-has_machine.false)
+    ∙ silent_is_so c.args.t.now c.args.j c.source_number-said.ensures c.has_machine.ensures)

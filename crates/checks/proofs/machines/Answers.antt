@@ -10,29 +10,29 @@ use Rattle.checks.specs.laws.Met.{reached_start, reached_length, reached_turn, r
 use Rattle.checks.proofs.machines.Goals as goal
 
 pub loop-j-init : goal.loop-j-init
-loop-j-init c = (omega arith, reached_start c.args.t.now (replicate {A = ℕ} 32 0) (length-replicate {A = ℕ} 32 0))
+loop-j-init c = reached_start c.args.t.now (replicate {A = ℕ} 32 0) (length-replicate {A = ℕ} 32 0)
 
 pub enrol-n-requires : goal.enrol-n-requires
-enrol-n-requires c = (omega (arith, c.sources-count.ensures, sources_most c.args.t.now), omega (arith, c.sources-count.ensures, sources_most c.args.t.now, c.loop-j.invariant.1.few), c.loop-j.invariant.1.long)
+enrol-n-requires c = (omega (arith, c.sources-j-end.ensures, sources_most c.args.t.now), omega (arith, c.sources-j-end.ensures, sources_most c.args.t.now, c.loop-j.invariant.few), c.loop-j.invariant.long)
 
 pub machine_at-requires : goal.machine_at-requires
-machine_at-requires c = (omega (arith, c.sources-count.ensures, sources_most c.args.t.now), omega (arith, c.sources-count.ensures, sources_most c.args.t.now, c.loop-j.invariant.1.few, c.enrol-n.ensures.most))
+machine_at-requires c = (omega (arith, c.sources-j-end.ensures, sources_most c.args.t.now), omega (arith, c.sources-j-end.ensures, sources_most c.args.t.now, c.loop-j.invariant.few, c.enrol-n.ensures.most))
 
 pub offset_bounds-out-j : goal.offset_bounds-out-j
-offset_bounds-out-j c = omega (arith, c.sources-count.ensures, sources_most c.args.t.now)
+offset_bounds-out-j c = omega (arith, c.sources-j-end.ensures, sources_most c.args.t.now)
 
 pub bounds-out-j : goal.bounds-out-j
-bounds-out-j c = omega (arith, c.sources-count.ensures, sources_most c.args.t.now, reached_length c.loop-j.invariant.1)
+bounds-out-j c = omega (arith, c.sources-j-end.ensures, sources_most c.args.t.now, reached_length c.loop-j.invariant)
 
 pub loop-j-preserved : goal.loop-j-preserved
-loop-j-preserved c = (omega arith, reached_turn c.loop-j.invariant.1 (omega (arith, c.sources-count.ensures)) c.enrol-n.ensures c.machine_at.ensures)
+loop-j-preserved c = reached_turn c.loop-j.invariant (omega (arith, c.sources-j-end.ensures)) c.enrol-n.ensures c.machine_at.ensures
 
 pub overflow_add-result : goal.overflow_add-result
-overflow_add-result c = omega (arith, c.wide-names.ensures.1, c.sources-count.ensures, sources_most c.args.t.now, c.loop-j.invariant.1.few)
+overflow_add-result c = omega (arith, c.names.ensures.1, c.sources-j-end.ensures, sources_most c.args.t.now, c.loop-j.invariant.few)
 
 pub overflow_add-result-2 : goal.overflow_add-result-2
-overflow_add-result-2 c = omega (arith, c.wide-names.ensures.1, c.sources-count.ensures, sources_most c.args.t.now, c.loop-j.invariant.1.few)
+overflow_add-result-2 c = omega (arith, c.names.ensures.1, c.sources-j-end.ensures, sources_most c.args.t.now, c.loop-j.invariant.few)
 
 pub returns : goal.returns
 unfolding facts_by
-returns c = (ap (λ (m : ℕ). 1 + (m + c.loop-j.n)) c.wide-names.ensures.0 ∙ reached_count c.loop-j.invariant.1 (omega (arith, c.sources-count.ensures)), reached_table c.loop-j.invariant.1 (omega (arith, c.sources-count.ensures)))
+returns c = (ap (λ (m : ℕ). 1 + (m + c.loop-j.n)) c.names.ensures.0 ∙ reached_count c.loop-j.invariant (omega (arith, c.sources-j-end.ensures)), reached_table c.loop-j.invariant (omega (arith, c.sources-j-end.ensures)))

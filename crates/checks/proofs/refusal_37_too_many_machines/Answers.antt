@@ -7,4 +7,4 @@ use Rattle.checks.proofs.refusal_37_too_many_machines.Goals as goal
 
 pub returns : goal.returns
 unfolding refusal_37_too_many_machines
-returns c = ap (ltb 32) c.machines-count.ensures.0
+returns c = ap (ltb 32) c.machines.ensures.0

@@ -1,8 +1,8 @@
--- `checks::sources` meets its contract: the second number, cut at 32.
--- Assumes nothing.
+-- `checks::sources` meets its contract: a table tells of 32 at most. Assumes nothing.
+use borrow.Author.Rules.{rules}
 use Rattle.checks.specs.Table.{sources_held}
 use Rattle.checks.proofs.sources.Goals as goal
 
 pub returns : goal.returns
 unfolding sources_held
-returns c = c.held.ensures
+returns c = search rules

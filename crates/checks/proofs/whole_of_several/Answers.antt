@@ -1,10 +1,21 @@
--- `checks::whole_of_several` meets its contract: the source's kind is told first, then its file's sources are counted.
--- Assumes nothing.
-use Rattle.checks.specs.laws.Told.{whole_not, whole_yes}
+-- `checks::whole_of_several` meets its contract: its two tests are the definition's. Assumes nothing.
+use borrow.Author.Tests.{eq-eqb, ne_eqb}
+use mathlib.Core.Path.{refl, sym, ap, ◌∙◌}
+use mathlib.Core.Bool.{Bool, ◌&&◌}
+use lib.Dec.{leb}
+use Rattle.merged.specs.Machines.{sources_in}
+use Rattle.checks.specs.Table.{source_by, facts_by}
+use Rattle.checks.specs.laws.Told.{whole_said}
 use Rattle.checks.proofs.whole_of_several.Goals as goal
 
-pub returns-then-source_number-ne1 : goal.returns-then-source_number-ne1
-returns-then-source_number-ne1 c = whole_not c.args.t.now c.args.j c.source_number.ensures c.if-source_number-ne1.true
+pub returns-then-source_number-eq-WHOLE : goal.returns-then-source_number-eq-WHOLE
+returns-then-source_number-eq-WHOLE c =
+    ap (λ (b : Bool). b && c.has_several.result) (sym (eq-eqb c.source_number.result 1 c.if-source_number-eq-WHOLE.true))
+    ∙ whole_said c.args.t.now c.args.j c.source_number.ensures c.has_several.ensures
 
-pub returns : goal.returns
-returns c = whole_yes c.args.t.now c.args.j c.source_number.ensures c.if-source_number-ne1.false c.source_number-file.ensures c.sources_in-several.ensures
+pub returns-else-source_number-eq-WHOLE : goal.returns-else-source_number-eq-WHOLE
+returns-else-source_number-eq-WHOLE c =
+    let other = ne_eqb c.source_number.result 1 c.if-source_number-eq-WHOLE.false in
+    other
+    ∙ (ap (λ (b : Bool). b && leb 2 (sources_in (source_by c.args.t.now c.args.j).file (facts_by c.args.t.now).sources)) (sym other)
+    ∙ whole_said c.args.t.now c.args.j c.source_number.ensures refl)

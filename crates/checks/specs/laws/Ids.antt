@@ -1,18 +1,18 @@
 -- Unnamed ids, each once, as they are met from front to back; and the place of each among them. Assumes nothing.
-use Rattle.std.specs.Prelude.{◌≡◌, Bool, ◌||◌, eqb, set}
+use Rattle.std.specs.Prelude.{◌≡◌, Bool, ◌||◌, not, cond, eqb, ltb, set, Option, Some, None, unwrap_or}
+use Rattle.std.specs.List.{position_or_len}
 use Rattle.std.proofs.Math.Path.{refl, sym, ap}
-use Rattle.std.proofs.Common.{subst, ◌∙◌, get_or-set_same, get_or-set_other, eqb-true, eq-eqb, ne_eqb}
+use Rattle.std.proofs.Common.{subst, ◌∙◌, ltb-false, take-suc, get_or-set_same, get_or-set_other, eqb-true, eq-eqb}
 use Rattle.std.proofs.Math.Bool.{true, false}
 use mathlib.Core.List.{List, [], ◌∷◌, ◌++◌, append_assoc, append-nil}
-use Prim.Native.Nat.{ℕ, zero, suc, ◌+◌, ◌-◌, ◌≤◌, ◌<◌}
+use Prim.Native.Nat.{ℕ, zero, suc, ◌+◌, ◌≤◌, ◌<◌}
 use native.Mathlib.Omega.{arith}
 use Rattle.std.proofs.Math.Dec.{T}
-use Rattle.std.proofs.Math.ListN.{length, get_or}
+use Rattle.std.proofs.Math.ListN.{length, get_or, take}
 use Rattle.text.specs.Reading.{pick}
-use Rattle.text.specs.laws.Readers.{pick_true, pick_false}
 use Rattle.manifest.specs.Rows.{first_or, any}
 use Rattle.index.specs.Index.{listed}
-use Rattle.index.proofs.laws.Entries.{listed_length, from, from_here, from_past}
+use Rattle.index.proofs.laws.Entries.{listed_length}
 use Rattle.merged.specs.Machines.{without, distinct}
 
 -- ---- each number once, from front to back
@@ -190,31 +190,6 @@ place_most ids n id = go (any (eqb id) (firsts ids n)) refl
     go true e = let z : first_or n (eqb id) (firsts ids n) 0 < 0 + length (firsts ids n) = first_below (eqb id) (firsts ids n) n 0 e in omega (arith, firsts_length ids n)
     go false e = let z : first_or n (eqb id) (firsts ids n) 0 ≡ n = first_none (eqb id) (firsts ids n) n 0 e in omega arith
 
--- the search for an id among them: those from number k on decide
-module _ (ids : List ℕ) (n id : ℕ) where
-  unfoldable pub Sought : ℕ → Type 0
-  Sought k = place_in n id (firsts ids n) ≡ first_or n (eqb id) (from (λ i. get_or ids i 0) n k) k
-
-  pub sought_start : Sought 0
-  unfolding Sought place_in firsts from
-  sought_start = let e : n ≡ n - 0 = omega arith in ap (λ (m : ℕ). first_or n (eqb id) (listed (λ i. get_or ids i 0) 0 m) 0) e
-
-  module _ (k : ℕ) (o : Sought k) where
-    pub sought_here : k < n → get_or ids k 0 ≡ id → k ≡ place_in n id (firsts ids n)
-    unfolding Sought first_or
-    sought_here h e = sym (o ∙ (ap (λ (l : List ℕ). first_or n (eqb id) l k) (from_here (λ i. get_or ids i 0) n k h) ∙ pick_true _ _ (eq-eqb id (get_or ids k 0) (sym e))))
-
-    pub sought_on : k < n → (get_or ids k 0 ≡ id → ⊥) → Sought (k + 1)
-    unfolding Sought first_or
-    sought_on h e =
-        let s : suc k ≡ k + 1 = omega arith in
-        o ∙ (ap (λ (l : List ℕ). first_or n (eqb id) l k) (from_here (λ i. get_or ids i 0) n k h)
-        ∙ (pick_false _ _ (ne_eqb id (get_or ids k 0) (λ q. e (sym q))) ∙ ap (λ (m : ℕ). first_or n (eqb id) (from (λ i. get_or ids i 0) n m) m) s))
-
-    pub sought_past : n ≤ k → n ≡ place_in n id (firsts ids n)
-    unfolding Sought first_or
-    sought_past h = sym (o ∙ ap (λ (l : List ℕ). first_or n (eqb id) l k) (from_past (λ i. get_or ids i 0) n k h))
-
 -- ---- lists by number
 
 module _ {A : Type 0} where
@@ -237,3 +212,42 @@ firsts_more ids n a h =
     ∙ (listed_end (λ k. get_or (set ids n a) k 0) 0 n
     ∙ (λ u. listed_same (λ k. get_or (set ids n a) k 0) (λ k. get_or ids k 0) 0 n (λ k q. get_or-set_other ids n k a 0 (λ e. absurd (omega arith))) u
     ++ (ap (λ (k : ℕ). get_or (set ids n a) k 0) z ∙ get_or-set_same ids n a 0 h) u ∷ []))
+
+-- ---- the place of an id, as `position` finds it
+
+pub firsts_take : (ids : List ℕ) (n : ℕ) → n ≤ length ids → firsts ids n ≡ take n ids
+unfolding firsts listed
+firsts_take ids zero h = refl
+firsts_take ids (suc n) h =
+    let z : 0 + n ≡ n = omega arith in
+    listed_end (λ k. get_or ids k 0) 0 n
+    ∙ ((λ i. firsts_take ids n (omega arith) i ++ get_or ids (z i) 0 ∷ []) ∙ sym (take-suc ids n 0 (omega arith)))
+
+place_counted : (id : ℕ) (l : List ℕ) (i d : ℕ) → d ≡ i + length l → i + position_or_len (eqb id) l ≡ first_or d (eqb id) l i
+unfolding first_or pick
+place_counted id [] i d h = let e : i + 0 ≡ d = omega arith in e
+place_counted id (a ∷ l) i d h = go (eqb id a) (place_counted id l (suc i) d (omega arith))
+  where
+    go : (t : Bool) → suc i + position_or_len (eqb id) l ≡ first_or d (eqb id) l (suc i)
+        → i + cond (not t) (1 + position_or_len (eqb id) l) 0 ≡ pick t i (first_or d (eqb id) l (suc i))
+    go true e = let z : i + 0 ≡ i = omega arith in z
+    go false e = let z : i + (1 + position_or_len (eqb id) l) ≡ suc i + position_or_len (eqb id) l = omega arith in z ∙ e
+
+position_most : (id : ℕ) (l : List ℕ) → position_or_len (eqb id) l ≤ length l
+position_most id [] = omega arith
+position_most id (a ∷ l) = go (eqb id a) (position_most id l)
+  where
+    go : (t : Bool) → position_or_len (eqb id) l ≤ length l → cond (not t) (1 + position_or_len (eqb id) l) 0 ≤ suc (length l)
+    go true h = omega arith
+    go false h = omega arith
+
+pub place_found : (id : ℕ) (l : List ℕ) (n : ℕ) {p : Option ℕ} → length l ≡ n → p ≡ cond (ltb (position_or_len (eqb id) l) (length l)) (Some (position_or_len (eqb id) l)) None
+    → unwrap_or p n ≡ place_in n id l
+unfolding place_in
+place_found id l n h e =
+    ap (λ (o : Option ℕ). unwrap_or o n) e
+    ∙ (go (ltb (position_or_len (eqb id) l) (length l)) refl ∙ ((let z : position_or_len (eqb id) l ≡ 0 + position_or_len (eqb id) l = omega arith in z) ∙ place_counted id l 0 n (omega (arith, h))))
+  where
+    go : (t : Bool) → ltb (position_or_len (eqb id) l) (length l) ≡ t → unwrap_or (cond t (Some (position_or_len (eqb id) l)) None) n ≡ position_or_len (eqb id) l
+    go true q = refl
+    go false q = let m : n ≡ position_or_len (eqb id) l = omega (arith, h, position_most id l, ltb-false (position_or_len (eqb id) l) (length l) q) in m

@@ -1,14 +1,17 @@
--- Loops over the files and sources that a table holds: a test of each, and a count. Assumes nothing.
-use Rattle.std.specs.Prelude.{◌≡◌, Bool, true, false, List, ◌∷◌}
-use Rattle.std.proofs.Math.Path.{ap}
+-- Passes over the files and sources that a table holds: a test of each, and a count. Assumes nothing.
+use Rattle.std.specs.Prelude.{◌≡◌, Bool, true, false, not, ◌||◌, List, [], ◌∷◌, ◌++◌}
+use Rattle.std.specs.List.{list_any, range_with_len}
+use Rattle.std.proofs.Math.Path.{ap, refl}
 use Rattle.std.proofs.Common.{◌∙◌, eq-eqb, ne_eqb}
-use Prim.Native.Nat.{ℕ, suc, ◌+◌, ◌-◌, ◌≤◌, ◌<◌}
+use Prim.Native.Nat.{ℕ, zero, suc, ◌+◌, ◌-◌, ◌≤◌, ◌<◌}
 use native.Mathlib.Omega.{arith}
 use Rattle.text.specs.laws.Readers.{pick_true, pick_false}
 use Rattle.manifest.specs.Rows.{any}
 use Rattle.index.specs.Index.{listed}
-use Rattle.index.proofs.laws.Entries.{from, from_here, from_past, any_past, any_found, any_on}
-use Rattle.merged.specs.Facts.{SourceFact}
+use Rattle.index.proofs.laws.Entries.{from, from_here, from_past}
+use Rattle.text.specs.Reading.{pick}
+use Rattle.merged.specs.Facts.{FileFact, SourceFact}
+use Rattle.merged.specs.Refusals.{listed_by, unused}
 use Rattle.merged.specs.Machines.{sources_in}
 use Rattle.checks.specs.Table.{files_in, sources_held}
 
@@ -26,29 +29,6 @@ from_start f n = let e : n ≡ n - 0 = omega arith in ap (listed f 0) e
 
 pub from_next : {A : Type 0} (f : ℕ → A) (n i : ℕ) → i < n → from f n i ≡ f i ∷ from f n (i + 1)
 from_next f n i h = let s : suc i ≡ i + 1 = omega arith in from_here f n i h ∙ ap (λ (k : ℕ). f i ∷ from f n k) s
-
--- ---- a test of the n elements: those from number i on decide
-
-unfoldable pub Open : {A : Type 0} → (A → Bool) → (ℕ → A) → ℕ → ℕ → Type 0
-Open p f n i = any p (listed f 0 n) ≡ any p (from f n i)
-
-module _ {A : Type 0} (p : A → Bool) (f : ℕ → A) (n : ℕ) where
-  pub open_start : Open p f n 0
-  unfolding Open
-  open_start = ap (any p) (from_start f n)
-
-  module _ (i : ℕ) (o : Open p f n i) where
-    pub open_found : i < n → p (f i) ≡ true → any p (listed f 0 n) ≡ true
-    unfolding Open
-    open_found h e = o ∙ any_found f n p i h e
-
-    pub open_on : i < n → p (f i) ≡ false → Open p f n (i + 1)
-    unfolding Open
-    open_on h e = let s : suc i ≡ i + 1 = omega arith in o ∙ (any_on f n p i h e ∙ ap (λ (k : ℕ). any p (from f n k)) s)
-
-    pub open_past : n ≤ i → any p (listed f 0 n) ≡ false
-    unfolding Open
-    open_past h = o ∙ any_past f n p i h
 
 -- ---- how many of n sources belong to a file
 
@@ -79,3 +59,43 @@ module _ (file : ℕ) (f : ℕ → SourceFact) (n : ℕ) where
     counted_all h =
         let a : sources_in file (from f n i) ≡ 0 = ap (sources_in file) (from_past f n i h) in
         omega arith
+
+-- ---- a test over a range of numbers
+
+pub any_range : {A : Type 0} (p : A → Bool) (f : ℕ → A) (k n : ℕ) → list_any (λ i. p (f i)) (range_with_len k n) ≡ any p (listed f k n)
+unfolding any listed
+any_range p f k zero = refl
+any_range p f k (suc n) =
+    let s : k + 1 ≡ suc k = omega arith in
+    ap (λ (b : Bool). p (f k) || b) (ap (λ (m : ℕ). list_any (λ i. p (f i)) (range_with_len m n)) s ∙ any_range p f (suc k) n)
+
+-- an entry that lists no file is found from the front on, or from the end
+list_any_end : (p : ℕ → Bool) (l : List ℕ) (x : ℕ) → list_any p (l ++ x ∷ []) ≡ (list_any p l || p x)
+list_any_end p [] x = or_false (p x)
+  where
+    or_false : (b : Bool) → (b || false) ≡ b
+    or_false true = refl
+    or_false false = refl
+list_any_end p (a ∷ l) x = go (p a) (list_any_end p l x)
+  where
+    go : (b : Bool) → list_any p (l ++ x ∷ []) ≡ (list_any p l || p x) → (b || list_any p (l ++ x ∷ [])) ≡ ((b || list_any p l) || p x)
+    go true e = refl
+    go false e = e
+
+range_end : (k n : ℕ) → range_with_len k (suc n) ≡ range_with_len k n ++ (k + n) ∷ []
+range_end k zero = let e : k ≡ k + 0 = omega arith in ap (λ (m : ℕ). m ∷ []) e
+range_end k (suc n) = let e : k + 1 + n ≡ k + suc n = omega arith in ap (λ (l : List ℕ). k ∷ l) (range_end (k + 1) n ∙ ap (λ (m : ℕ). range_with_len (k + 1) n ++ m ∷ []) e)
+
+pub unused_range : (fs : List FileFact) (n : ℕ) → list_any (λ e. not (any (listed_by e) fs)) (range_with_len 0 n) ≡ unused n fs
+unfolding unused pick
+unused_range fs zero = refl
+unused_range fs (suc n) =
+    let z : 0 + n ≡ n = omega arith in
+    ap (list_any (λ e. not (any (listed_by e) fs))) (range_end 0 n ∙ ap (λ (m : ℕ). range_with_len 0 n ++ m ∷ []) z)
+    ∙ (list_any_end (λ e. not (any (listed_by e) fs)) (range_with_len 0 n) n ∙ go (any (listed_by n) fs) (list_any (λ e. not (any (listed_by e) fs)) (range_with_len 0 n)) (unused_range fs n))
+  where
+    go : (a b : Bool) → b ≡ unused n fs → (b || not a) ≡ pick a (unused n fs) true
+    go true true e = e
+    go true false e = e
+    go false true e = refl
+    go false false e = refl

@@ -1,19 +1,17 @@
 -- What each test tells: the laws of the tests that the code makes, in their order. Assumes nothing.
-use Rattle.std.specs.Prelude.{◌≡◌, Bool, true, false, ◌&&◌, List, eqb, length, get_or}
+use Rattle.std.specs.Prelude.{◌≡◌, Bool, true, false, ◌&&◌, ◌||◌, List, eqb, length, get_or}
 use Rattle.std.proofs.Math.Path.{refl, sym, ap}
 use Rattle.std.proofs.Common.{◌∙◌}
 use Rattle.std.proofs.Math.Bool.{not}
-use Prim.Native.Nat.{ℕ, suc, ◌+◌, ◌-◌, ◌≤◌, ◌<◌}
-use native.Mathlib.Omega.{arith}
+use Prim.Native.Nat.{ℕ, ◌+◌}
 use Rattle.std.proofs.Math.Dec.{leb}
-use borrow.Author.Tests.{eq-eqb, ne_eqb, le-leb, lt-leb}
+use borrow.Author.Tests.{eq-eqb, ne_eqb}
 use Rattle.text.specs.Reading.{pick}
 use Rattle.text.specs.laws.Readers.{pick_true, pick_false}
-use Rattle.manifest.specs.Rows.{any}
 use Rattle.index.proofs.laws.Entries.{listed_length}
 use Rattle.merged.specs.Facts.{FileFact, SourceFact, Facts}
 use Rattle.merged.specs.Machines.{sources_in, is_silent, by_id}
-use Rattle.merged.specs.Refusals.{listed_by, unused, has_clocks, is_undeclared, is_whole, is_pinned, checks, first_of, refusal_32_path_not_in_sheet, refusal_33_clocks_on_a_container, refusal_34_id_not_declared, refusal_35_machine_on_several_sources, refusal_36_pinned_file_with_a_snapshot, refusal_37_too_many_machines}
+use Rattle.merged.specs.Refusals.{unused, has_clocks, is_undeclared, is_whole, is_pinned, checks, first_of, refusal_32_path_not_in_sheet, refusal_33_clocks_on_a_container, refusal_34_id_not_declared, refusal_35_machine_on_several_sources, refusal_36_pinned_file_with_a_snapshot, refusal_37_too_many_machines}
 use Rattle.checks.specs.Table.{file_number, source_number, tie_of, given_of, is_set, file_by, source_by, files_in, facts_by}
 use Rattle.checks.specs.laws.Ids.{place_in}
 use Rattle.checks.specs.laws.Given.{machine_given, silent_is, given_is, whole_is, undeclared_is, clocks_are, pinned_is}
@@ -33,15 +31,6 @@ abbrev pub pinned_with_snapshot : FileFact → Bool
 pinned_with_snapshot f = is_pinned f.tie && f.recorded
 
 -- ---- of a file
-
-module _ (t : List ℕ) (f : ℕ) {a : ℕ} (ea : a ≡ file_number t f 0) {e : ℕ} where
-  pub listed_here : a ≡ e → listed_by e (file_by t f) ≡ true
-  unfolding file_by
-  listed_here q = eq-eqb (file_number t f 0) e (sym ea ∙ q)
-
-  pub listed_not : (a ≡ e → ⊥) → listed_by e (file_by t f) ≡ false
-  unfolding file_by
-  listed_not q = ne_eqb (file_number t f 0) e (λ p. q (ea ∙ p))
 
 module _ (t : List ℕ) (f : ℕ) {a : ℕ} (ea : a ≡ file_number t f 3) where
   pub container_not : a ≡ 0 → false ≡ clocks_on_container (file_by t f)
@@ -74,72 +63,46 @@ module _ (t : List ℕ) (f : ℕ) {a : ℕ} (ea : a ≡ file_number t f 1) where
 
 -- ---- of a source
 
+either_pick : {A : Type 0} (b c : Bool) (x y : A) → pick (b || c) x y ≡ pick b x (pick c x y)
+unfolding pick
+either_pick true c x y = refl
+either_pick false c x y = refl
+
+no_pick : (b c d : Bool) → (not (b || c) && d) ≡ pick b false (pick c false d)
+unfolding pick
+no_pick true c d = refl
+no_pick false true d = refl
+no_pick false false d = refl
+
 module _ (t : List ℕ) (j : ℕ) {a : ℕ} (ea : a ≡ source_number t j 2) where
-  pub undeclared_here : a ≡ 3 → not_declared (source_by t j) ≡ true
+  pub undeclared_said : eqb a 3 ≡ not_declared (source_by t j)
   unfolding source_by
-  undeclared_here q = undeclared_is (source_number t j 2) (source_number t j 3) ∙ eq-eqb (source_number t j 2) 3 (sym ea ∙ q)
+  undeclared_said = ap (λ (n : ℕ). eqb n 3) ea ∙ sym (undeclared_is (source_number t j 2) (source_number t j 3))
 
-  pub undeclared_not : (a ≡ 3 → ⊥) → not_declared (source_by t j) ≡ false
+  pub whole_said : {m : Bool} → m ≡ leb 2 (sources_in (source_by t j).file (facts_by t).sources) → (eqb a 1 && m) ≡ whole_of_several (facts_by t).sources (source_by t j)
   unfolding source_by
-  undeclared_not q = undeclared_is (source_number t j 2) (source_number t j 3) ∙ ne_eqb (source_number t j 2) 3 (λ p. q (ea ∙ p))
-
-  pub whole_not : (a ≡ 1 → ⊥) → false ≡ whole_of_several (facts_by t).sources (source_by t j)
-  unfolding source_by
-  whole_not n =
-      ap (λ (b : Bool). b && leb 2 (sources_in (source_number t j 0) (facts_by t).sources))
-      (sym (whole_is (source_number t j 2) (source_number t j 3) ∙ ne_eqb (source_number t j 2) 1 (λ p. n (ea ∙ p))))
-
-  pub whole_yes : a ≡ 1 → {file n : ℕ} → file ≡ source_number t j 0 → n ≡ sources_in file (facts_by t).sources → leb 2 n ≡ whole_of_several (facts_by t).sources (source_by t j)
-  unfolding source_by
-  whole_yes q ef en =
-      ap (leb 2) (en ∙ ap (λ (m : ℕ). sources_in m (facts_by t).sources) ef)
-      ∙ ap (λ (b : Bool). b && leb 2 (sources_in (source_number t j 0) (facts_by t).sources))
-      (sym (whole_is (source_number t j 2) (source_number t j 3) ∙ eq-eqb (source_number t j 2) 1 (sym ea ∙ q)))
+  whole_said e = λ i. (ap (λ (n : ℕ). eqb n 1) ea ∙ sym (whole_is (source_number t j 2) (source_number t j 3))) i && e i
 
   silent_said : pick (eqb a 1) false (pick (eqb a 2) false (not (eqb a 3))) ≡ is_silent (source_by t j).given
   unfolding source_by
   silent_said = sym (silent_is a (source_number t j 3)) ∙ ap (λ (m : ℕ). is_silent (given_of m (source_number t j 3))) ea
 
-  pub silent_1 : a ≡ 1 → false ≡ is_silent (source_by t j).given
-  silent_1 q = sym (pick_true _ _ (eq-eqb a 1 q)) ∙ silent_said
-
-  pub silent_2 : (a ≡ 1 → ⊥) → a ≡ 2 → false ≡ is_silent (source_by t j).given
-  silent_2 n q = sym (pick_false _ _ (ne_eqb a 1 n) ∙ pick_true _ _ (eq-eqb a 2 q)) ∙ silent_said
-
-  pub silent_else : (a ≡ 1 → ⊥) → (a ≡ 2 → ⊥) → not (eqb a 3) ≡ is_silent (source_by t j).given
-  silent_else n m = sym (pick_false _ _ (ne_eqb a 1 n) ∙ pick_false _ _ (ne_eqb a 2 m)) ∙ silent_said
+  pub silent_is_so : {h : Bool} → h ≡ (eqb a 1 || eqb a 2) → (not h && not (eqb a 3)) ≡ is_silent (source_by t j).given
+  silent_is_so e = ap (λ (b : Bool). not b && not (eqb a 3)) e ∙ (no_pick (eqb a 1) (eqb a 2) (not (eqb a 3)) ∙ silent_said)
 
   module _ {m : ℕ} (em : m ≡ source_number t j 3) where
     given_said : pick (eqb a 1) m (pick (eqb a 2) m 0) ≡ machine_given (source_by t j).given
     unfolding source_by
     given_said = sym (given_is a m) ∙ (λ i. machine_given (given_of (ea i) (em i)))
 
-    pub given_1 : a ≡ 1 → m ≡ machine_given (source_by t j).given
-    given_1 q = sym (pick_true _ _ (eq-eqb a 1 q)) ∙ given_said
-
-    pub given_2 : (a ≡ 1 → ⊥) → a ≡ 2 → m ≡ machine_given (source_by t j).given
-    given_2 n q = sym (pick_false _ _ (ne_eqb a 1 n) ∙ pick_true _ _ (eq-eqb a 2 q)) ∙ given_said
-
-    pub given_else : (a ≡ 1 → ⊥) → (a ≡ 2 → ⊥) → 0 ≡ machine_given (source_by t j).given
-    given_else n k = sym (pick_false _ _ (ne_eqb a 1 n) ∙ pick_false _ _ (ne_eqb a 2 k)) ∙ given_said
+    pub given_so : {h : Bool} → h ≡ (eqb a 1 || eqb a 2) → pick h m 0 ≡ machine_given (source_by t j).given
+    given_so e = ap (λ (b : Bool). pick b m 0) e ∙ (either_pick (eqb a 1) (eqb a 2) m 0 ∙ given_said)
 
 -- its machine is that of its id
-module _ (t : List ℕ) (j : ℕ) {s : Bool} (es : s ≡ is_silent (source_by t j).given) where
-  pub by_id_said : s ≡ false → false ≡ by_id (facts_by t) (source_by t j)
-  unfolding by_id
-  by_id_said q =
-      ap (λ (b : Bool). b && leb 2 (sources_in (source_by t j).file (facts_by t).sources) && not (eqb (source_by t j).id 0)) (sym q ∙ es)
-
-  module _ (q : s ≡ true) {file n : ℕ} (ef : file ≡ source_number t j 0) (en : n ≡ sources_in file (facts_by t).sources) where
-    by_id_is : (leb 2 n && not (eqb (source_number t j 1) 0)) ≡ by_id (facts_by t) (source_by t j)
-    unfolding by_id source_by
-    by_id_is = λ i. (sym q ∙ es) i && leb 2 ((en ∙ ap (λ (m : ℕ). sources_in m (facts_by t).sources) ef) i) && not (eqb (source_number t j 1) 0)
-
-    pub by_id_alone : n < 2 → false ≡ by_id (facts_by t) (source_by t j)
-    by_id_alone h = ap (λ (b : Bool). b && not (eqb (source_number t j 1) 0)) (sym (lt-leb 2 n h)) ∙ by_id_is
-
-    pub by_id_several : 2 ≤ n → {id : ℕ} → id ≡ source_number t j 1 → not (eqb id 0) ≡ by_id (facts_by t) (source_by t j)
-    by_id_several h e = (λ i. sym (le-leb 2 n h) i && not (eqb (e i) 0)) ∙ by_id_is
+pub by_id_said : (t : List ℕ) (j : ℕ) {s m : Bool} {id : ℕ} → s ≡ is_silent (source_by t j).given → m ≡ leb 2 (sources_in (source_by t j).file (facts_by t).sources) → id ≡ source_number t j 1
+    → (s && m && not (eqb id 0)) ≡ by_id (facts_by t) (source_by t j)
+unfolding by_id source_by
+by_id_said t j es em e = λ i. es i && em i && not (eqb (e i) 0)
 
 module _ (t : List ℕ) (j : ℕ) {b : Bool} (eb : b ≡ by_id (facts_by t) (source_by t j)) (n : ℕ) (l : List ℕ) where
   pub met_given : b ≡ false → {g : ℕ} → g ≡ machine_given (source_by t j).given → g ≡ machine_met (facts_by t) (source_by t j) n l
@@ -160,21 +123,6 @@ module _ (t : List ℕ) {n : ℕ} (en : n ≡ files_in t) where
   pub path_start : (n ≡ 0 → ⊥) → refusal_32_path_not_in_sheet.applies (facts_by t) ≡ unused (get_or t 2 0) (facts_by t).files
   unfolding refusal_32_path_not_in_sheet facts_by
   path_start z = ap (λ (b : Bool). not b && unused (facts_by t).entries (facts_by t).files) (ne_eqb (length (facts_by t).files) 0 (λ p. z (en ∙ (sym (listed_length (file_by t) 0 (files_in t)) ∙ p))))
-
-module _ {r : Bool} (fs : List FileFact) (e : ℕ) (o : r ≡ unused e fs) where
-  path_here : 0 < e → r ≡ pick (any (listed_by (e - 1)) fs) (unused (e - 1) fs) true
-  unfolding unused
-  path_here h = let s : e ≡ suc (e - 1) = omega arith in o ∙ ap (λ (k : ℕ). unused k fs) s
-
-  pub path_found : 0 < e → {b : Bool} → b ≡ any (listed_by (e - 1)) fs → b ≡ false → true ≡ r
-  path_found h eb q = sym (path_here h ∙ pick_false _ _ (sym eb ∙ q))
-
-  pub path_on : 0 < e → {b : Bool} → b ≡ any (listed_by (e - 1)) fs → b ≡ true → r ≡ unused (e - 1) fs
-  path_on h eb q = path_here h ∙ pick_true _ _ (sym eb ∙ q)
-
-  pub path_past : e ≤ 0 → false ≡ r
-  unfolding unused
-  path_past h = let z : e ≡ 0 = omega arith in sym (o ∙ ap (λ (k : ℕ). unused k fs) z)
 
 -- ---- the order
 

@@ -1,16 +1,13 @@
 -- The answer of an event whose path is known. Assumes nothing.
-use Rattle.std.specs.Prelude.{◌≡◌, true, false, List, ℕ, ◌≤◌, ◌<◌, length, ℤ, pos}
+use Rattle.std.specs.Prelude.{◌≡◌, true, false, List, ℕ, ◌≤◌, ◌<◌, length, ℤ, pos, Option, Some, None}
 use Rattle.std.proofs.Math.Path.{refl, ap}
 use Rattle.std.proofs.Common.{sym, ◌∙◌, arith}
 use Rattle.std.proofs.Math.Decide.{dec_lt}
 use Rattle.std.specs.Int.Signed.{lt_z}
-use Rattle.whole.specs.declared.Sum.{Sum}
-use Rattle.whole.specs.declared.Sum.TheVariants.{In, Out}
 use Rattle.paths.specs.Paths.{Leads, path}
 use Rattle.paths.proofs.Theorems.{path_best, best_is_path, far_no_path}
 use Rattle.graphs.specs.Graphs.{World, graph}
-use Rattle.clocks.specs.declared.Answer.TheVariants.{Placed, Dropped}
-use Rattle.clocks.specs.Answers.{carried, outside, early, ended, placed, related, answer_of}
+use Rattle.clocks.specs.Answers.{Placed, Dropped, carried, outside, early, ended, placed, related, answer_of}
 use Rattle.clocks.specs.laws.Chains.{Lowest, which, related_near, far_related, Exact, carried_exact, exact_carried, Chosen}
 use Rattle.clocks.specs.laws.Chains.Lowest.{lowest, nowhere}
 
@@ -29,16 +26,16 @@ module _ {w : World} {c g : ℕ} {p : List ℕ} (k : Chosen w c g p) where
       go (no m) (no n) = omega arith
 
   -- and its path is p, so that it is the end of p
-  pub chosen_answer : (t : ℤ) → answer_of w c t ≡ ended g (length p) (carried g w c p (In t))
+  pub chosen_answer : (t : ℤ) → answer_of w c t ≡ ended g (length p) (carried g w c p (Some t))
   unfolding placed
   chosen_answer t = go (which w c t)
     where
       q : p ≡ path (graph g w) c
       q = best_is_path (graph g w) c (omega arith) p k.best
 
-      go : Lowest w c t → answer_of w c t ≡ ended g (length p) (carried g w c p (In t))
+      go : Lowest w c t → answer_of w c t ≡ ended g (length p) (carried g w c p (Some t))
       go (nowhere n e) = absurd (leads_related g w c p k.best.leads (n g k.low k.high))
-      go (lowest h a b r l e) = e ∙ ap (λ (i : ℕ). placed i w c t) (same_graph h a r l) ∙ ap (λ (s : List ℕ). ended g (length s) (carried g w c s (In t))) (sym q)
+      go (lowest h a b r l e) = e ∙ ap (λ (i : ℕ). placed i w c t) (same_graph h a r l) ∙ ap (λ (s : List ℕ). ended g (length s) (carried g w c s (Some t))) (sym q)
 
   pub exact_placed : {t v : ℤ} → Exact g w c p t v → lt_z v (pos 0) ≡ false → answer_of w c t ≡ Placed v g (length p)
   unfolding ended
@@ -50,15 +47,15 @@ module _ {w : World} {c g : ℕ} {p : List ℕ} (k : Chosen w c g p) where
 
   pub inexact_outside : (t : ℤ) → ((v : ℤ) → Exact g w c p t v → ⊥) → answer_of w c t ≡ Dropped outside
   unfolding ended
-  inexact_outside t n = go (carried g w c p (In t)) refl
+  inexact_outside t n = go (carried g w c p (Some t)) refl
     where
-      go : (s : Sum) → carried g w c p (In t) ≡ s → answer_of w c t ≡ Dropped outside
-      go Out e = chosen_answer t ∙ ap (ended g (length p)) e
-      go (In v) e = absurd (n v (carried_exact g w c p t v e))
+      go : (s : Option ℤ) → carried g w c p (Some t) ≡ s → answer_of w c t ≡ Dropped outside
+      go None e = chosen_answer t ∙ ap (ended g (length p)) e
+      go (Some v) e = absurd (n v (carried_exact g w c p t v e))
 
 -- the sum along a path has one end
 pub exact_only : {g : ℕ} {w : World} {c : ℕ} {p : List ℕ} {t v u : ℤ} → Exact g w c p t v → Exact g w c p t u → v ≡ u
-exact_only {g} {w} {c} {p} {t} {v} {u} x y = let e : In v ≡ In u = sym (exact_carried x) ∙ exact_carried y in cc
+exact_only {g} {w} {c} {p} {t} {v} {u} x y = let e : Some v ≡ Some u = sym (exact_carried x) ∙ exact_carried y in cc
 
 -- there is one such graph, and one such path
 pub chosen_only : {w : World} {c g h : ℕ} {p q : List ℕ} → Chosen w c g p → Chosen w c h q → (g ≡ h) × (p ≡ q)

@@ -1,10 +1,8 @@
 -- When an event is unrelated, and what a placed event's time is. Assumes nothing.
-use Rattle.std.specs.Prelude.{◌≡◌, refl, Bool, true, false, cond, List, [], ◌∷◌, ℕ, zero, suc, ◌≤◌, ◌<◌, length, ℤ, pos, ◌+ℤ◌, ◌-ℤ◌}
+use Rattle.std.specs.Prelude.{◌≡◌, refl, Bool, true, false, cond, List, [], ◌∷◌, ℕ, zero, suc, ◌≤◌, ◌<◌, length, ℤ, pos, ◌+ℤ◌, ◌-ℤ◌, Option, Some, None}
 use Rattle.std.proofs.Common.{sym, ap, ◌∙◌, arith, ltb-true, ltb-false}
 use Rattle.std.specs.Int.Signed.{lt_z}
 use Rattle.numbers.specs.Numbers.{clocks}
-use Rattle.whole.specs.declared.Sum.{Sum}
-use Rattle.whole.specs.declared.Sum.TheVariants.{In, Out}
 use Rattle.whole.specs.Whole.{Within}
 use Rattle.whole.specs.Pairs.{Pair, xs_of, ys_of, converted, place_for, nth, Carries}
 use Rattle.whole.proofs.Theorems.{place_is, convert_at, convert_none, in_sum, sum_in}
@@ -14,14 +12,13 @@ use Rattle.paths.proofs.Theorems.{path_best, far_no_path, no_path_far, steps_len
 use Rattle.paths.proofs.laws.Reach.{dist_le, dist_more, goal_at}
 use Rattle.graphs.specs.Graphs.{World, along, graph}
 use Rattle.graphs.specs.laws.Shape.{graph_more}
-use Rattle.clocks.specs.declared.Answer.TheVariants.{Placed, Dropped}
-use Rattle.clocks.specs.Answers.{through, carried, unrelated, outside, early, ended, placed, related, answer_of}
+use Rattle.clocks.specs.Answers.{Placed, Dropped, through, carried, unrelated, outside, early, ended, placed, related, answer_of}
 
 -- ---- the three cases of an answer
-never_one : (g n : ℕ) (s : Sum) → ended g n s ≡ Dropped unrelated → ⊥
+never_one : (g n : ℕ) (s : Option ℤ) → ended g n s ≡ Dropped unrelated → ⊥
 unfolding ended
-never_one g n Out e = let q : ◌≡◌ {A = ℕ} 2 1 = cc in omega arith
-never_one g n (In t) e = go (lt_z t (pos 0)) e
+never_one g n None e = let q : ◌≡◌ {A = ℕ} 2 1 = cc in omega arith
+never_one g n (Some t) e = go (lt_z t (pos 0)) e
   where
     go : (b : Bool) → cond b (Dropped 3) (Placed t g n) ≡ Dropped unrelated → ⊥
     go true e = let q : ◌≡◌ {A = ℕ} 3 1 = cc in omega arith
@@ -96,62 +93,62 @@ pub data Exact (g : ℕ) (w : World) : ℕ → List ℕ → ℤ → ℤ → Type
   arrived : {c : ℕ} {t : ℤ} → Exact g w c [] t t
   over : {c d i : ℕ} {p : List ℕ} {t u v : ℤ} → Carries t (xs_of (along g w c d)) i → t +ℤ nth (ys_of (along g w c d)) i -ℤ nth (xs_of (along g w c d)) i ≡ u → Within u → Exact g w d p u v → Exact g w c (d ∷ p) t v
 
-out_stays : (g : ℕ) (w : World) (c : ℕ) (p : List ℕ) → carried g w c p Out ≡ Out
+out_stays : (g : ℕ) (w : World) (c : ℕ) (p : List ℕ) → carried g w c p None ≡ None
 unfolding carried through
 out_stays g w c [] = refl
 out_stays g w c (d ∷ p) = out_stays g w d p
 
-in_out : {X : Type 0} {v : ℤ} → Out ≡ In v → X
+in_out : {X : Type 0} {v : ℤ} → None ≡ Some v → X
 in_out e = let z : ◌≡◌ {A = ℕ} 0 1 = cc in absurd (omega arith)
 
-some_x : (t : ℤ) (ps : List Pair) (u : ℤ) → converted t ps ≡ In u → 0 < length (xs_of ps)
+some_x : (t : ℤ) (ps : List Pair) (u : ℤ) → converted t ps ≡ Some u → 0 < length (xs_of ps)
 unfolding xs_of
 some_x t [] u q = in_out (sym (convert_none t) ∙ q)
 some_x t (x ∷ ps) u q = omega arith
 
-pub carried_exact : (g : ℕ) (w : World) (c : ℕ) (p : List ℕ) (t v : ℤ) → carried g w c p (In t) ≡ In v → Exact g w c p t v
+pub carried_exact : (g : ℕ) (w : World) (c : ℕ) (p : List ℕ) (t v : ℤ) → carried g w c p (Some t) ≡ Some v → Exact g w c p t v
 unfolding carried through
 carried_exact g w c [] t v e = let q : t ≡ v = cc in rw q arrived
 carried_exact g w c (d ∷ p) t v e = go (converted t (along g w c d)) refl e (λ u. carried_exact g w d p u v)
   where
-    go : (s : Sum) → converted t (along g w c d) ≡ s → carried g w d p s ≡ In v → ((u : ℤ) → carried g w d p (In u) ≡ In v → Exact g w d p u v) → Exact g w c (d ∷ p) t v
-    go Out q e ih = in_out (sym (out_stays g w d p) ∙ e)
-    go (In u) q e ih =
+    go : (s : Option ℤ) → converted t (along g w c d) ≡ s → carried g w d p s ≡ Some v → ((u : ℤ) → carried g w d p (Some u) ≡ Some v → Exact g w d p u v) → Exact g w c (d ∷ p) t v
+    go None q e ih = in_out (sym (out_stays g w d p) ∙ e)
+    go (Some u) q e ih =
         let k : Carries t (xs_of (along g w c d)) (place_for t (xs_of (along g w c d))) = place_is t (xs_of (along g w c d)) (some_x t (along g w c d) u q) in
         let s = in_sum t (nth (xs_of (along g w c d)) (place_for t (xs_of (along g w c d)))) (nth (ys_of (along g w c d)) (place_for t (xs_of (along g w c d)))) u (sym (convert_at t (along g w c d) (place_for t (xs_of (along g w c d))) k) ∙ q) in
         over k s.0 s.1 (ih u e)
 
-pub exact_carried : {g : ℕ} {w : World} {c : ℕ} {p : List ℕ} {t v : ℤ} → Exact g w c p t v → carried g w c p (In t) ≡ In v
+pub exact_carried : {g : ℕ} {w : World} {c : ℕ} {p : List ℕ} {t v : ℤ} → Exact g w c p t v → carried g w c p (Some t) ≡ Some v
 unfolding carried through
 exact_carried arrived = refl
 exact_carried {g} {w} (over {c} {d} {i} {p} {t} {u} {v} k e b x) =
     ap (carried g w d p) (convert_at t (along g w c d) i k ∙ sum_in t (nth (xs_of (along g w c d)) i) (nth (ys_of (along g w c d)) i) u e b) ∙ exact_carried x
 
 -- ---- the answer by its value at the end
-ended_placed : (g n : ℕ) (s : Sum) (v : ℤ) (h m : ℕ) → ended g n s ≡ Placed v h m → (s ≡ In v) × (g ≡ h) × (n ≡ m) × (lt_z v (pos 0) ≡ false)
+ended_placed : (g n : ℕ) (s : Option ℤ) (v : ℤ) (h m : ℕ) → ended g n s ≡ Placed v h m → (s ≡ Some v) × (g ≡ h) × (n ≡ m) × (lt_z v (pos 0) ≡ false)
 unfolding ended
-ended_placed g n Out v h m e = let z : ◌≡◌ {A = ℕ} 0 1 = cc in absurd (omega arith)
-ended_placed g n (In t) v h m e = go (lt_z t (pos 0)) refl e
+ended_placed g n None v h m e = let z : ◌≡◌ {A = ℕ} 0 1 = cc in absurd (omega arith)
+ended_placed g n (Some t) v h m e = go (lt_z t (pos 0)) refl e
   where
-    go : (b : Bool) → lt_z t (pos 0) ≡ b → cond b (Dropped 3) (Placed t g n) ≡ Placed v h m → (In t ≡ In v) × (g ≡ h) × (n ≡ m) × (lt_z v (pos 0) ≡ false)
+    go : (b : Bool) → lt_z t (pos 0) ≡ b → cond b (Dropped 3) (Placed t g n) ≡ Placed v h m → (Some t ≡ Some v) × (g ≡ h) × (n ≡ m) × (lt_z v (pos 0) ≡ false)
     go true q e = let z : ◌≡◌ {A = ℕ} 0 1 = cc in absurd (omega arith)
     go false q e = let a : t ≡ v = cc in (cc, cc, cc, ap (λ (x : ℤ). lt_z x (pos 0)) (sym a) ∙ q)
 
-ended_outside : (g n : ℕ) (s : Sum) → ended g n s ≡ Dropped outside → s ≡ Out
+ended_outside : (g n : ℕ) (s : Option ℤ) → ended g n s ≡ Dropped outside → s ≡ None
 unfolding ended
-ended_outside g n Out e = refl
-ended_outside g n (In t) e = go (lt_z t (pos 0)) e
+ended_outside g n None e = refl
+ended_outside g n (Some t) e = go (lt_z t (pos 0)) e
   where
-    go : (b : Bool) → cond b (Dropped 3) (Placed t g n) ≡ Dropped outside → In t ≡ Out
+    go : (b : Bool) → cond b (Dropped 3) (Placed t g n) ≡ Dropped outside → Some t ≡ None
     go true e = let z : ◌≡◌ {A = ℕ} 3 2 = cc in absurd (omega arith)
     go false e = let z : ◌≡◌ {A = ℕ} 0 1 = cc in absurd (omega arith)
 
-ended_early : (g n : ℕ) (s : Sum) → ended g n s ≡ Dropped early → (v : ℤ) × (s ≡ In v) × (lt_z v (pos 0) ≡ true)
+ended_early : (g n : ℕ) (s : Option ℤ) → ended g n s ≡ Dropped early → (v : ℤ) × (s ≡ Some v) × (lt_z v (pos 0) ≡ true)
 unfolding ended
-ended_early g n Out e = let z : ◌≡◌ {A = ℕ} 2 3 = cc in absurd (omega arith)
-ended_early g n (In t) e = go (lt_z t (pos 0)) refl e
+ended_early g n None e = let z : ◌≡◌ {A = ℕ} 2 3 = cc in absurd (omega arith)
+ended_early g n (Some t) e = go (lt_z t (pos 0)) refl e
   where
-    go : (b : Bool) → lt_z t (pos 0) ≡ b → cond b (Dropped 3) (Placed t g n) ≡ Dropped early → (v : ℤ) × (In t ≡ In v) × (lt_z v (pos 0) ≡ true)
+    go : (b : Bool) → lt_z t (pos 0) ≡ b → cond b (Dropped 3) (Placed t g n) ≡ Dropped early → (v : ℤ) × (Some t ≡ Some v) × (lt_z v (pos 0) ≡ true)
     go true q e = (t, refl, q)
     go false q e = let z : ◌≡◌ {A = ℕ} 0 1 = cc in absurd (omega arith)
 
@@ -180,7 +177,7 @@ placed_is w c t v g n e = go (which w c t)
     go : Lowest w c t → (p : List ℕ) × Chosen w c g p × (length p ≡ n) × Exact g w c p t v × (lt_z v (pos 0) ≡ false)
     go (nowhere m q) = let k : Dropped unrelated ≡ Placed v g n = sym q ∙ e in let z : ◌≡◌ {A = ℕ} 0 1 = cc in absurd (omega arith)
     go (lowest h a b r l q) =
-        let (s, i, j, k) = ended_placed h (length (path (graph h w) c)) (carried h w c (path (graph h w) c) (In t)) v g n (sym q ∙ e) in
+        let (s, i, j, k) = ended_placed h (length (path (graph h w) c)) (carried h w c (path (graph h w) c) (Some t)) v g n (sym q ∙ e) in
         let x : Exact h w c (path (graph h w) c) t v = carried_exact h w c (path (graph h w) c) t v s in
         let res : (p : List ℕ) × Chosen w c h p × (length p ≡ n) × Exact h w c p t v × (lt_z v (pos 0) ≡ false) = (path (graph h w) c, chosen w c h a b r l, j, x, k) in
         rw i at res
@@ -192,7 +189,7 @@ outside_is w c t e = go (which w c t)
     go : Lowest w c t → (g : ℕ) × (p : List ℕ) × Chosen w c g p × ((v : ℤ) → Exact g w c p t v → ⊥)
     go (nowhere m q) = let k : Dropped unrelated ≡ Dropped outside = sym q ∙ e in let z : ◌≡◌ {A = ℕ} 1 2 = cc in absurd (omega arith)
     go (lowest h a b r l q) =
-        let s : carried h w c (path (graph h w) c) (In t) ≡ Out = ended_outside h (length (path (graph h w) c)) (carried h w c (path (graph h w) c) (In t)) (sym q ∙ e) in
+        let s : carried h w c (path (graph h w) c) (Some t) ≡ None = ended_outside h (length (path (graph h w) c)) (carried h w c (path (graph h w) c) (Some t)) (sym q ∙ e) in
         (h, path (graph h w) c, chosen w c h a b r l, λ v x. in_out (sym s ∙ exact_carried x))
 
 pub early_is : (w : World) (c : ℕ) (t : ℤ) → answer_of w c t ≡ Dropped early → (g : ℕ) × (p : List ℕ) × (v : ℤ) × Chosen w c g p × Exact g w c p t v × (lt_z v (pos 0) ≡ true)
@@ -202,11 +199,11 @@ early_is w c t e = go (which w c t)
     go : Lowest w c t → (g : ℕ) × (p : List ℕ) × (v : ℤ) × Chosen w c g p × Exact g w c p t v × (lt_z v (pos 0) ≡ true)
     go (nowhere m q) = let k : Dropped unrelated ≡ Dropped early = sym q ∙ e in let z : ◌≡◌ {A = ℕ} 1 3 = cc in absurd (omega arith)
     go (lowest h a b r l q) =
-        let (v, s, k) = ended_early h (length (path (graph h w) c)) (carried h w c (path (graph h w) c) (In t)) (sym q ∙ e) in
+        let (v, s, k) = ended_early h (length (path (graph h w) c)) (carried h w c (path (graph h w) c) (Some t)) (sym q ∙ e) in
         (h, path (graph h w) c, v, chosen w c h a b r l, carried_exact h w c (path (graph h w) c) t v s, k)
 
 -- ---- trace time itself
-pub at_trace : (w : World) (t : ℤ) → w.trace < clocks → answer_of w w.trace t ≡ ended 1 0 (In t)
+pub at_trace : (w : World) (t : ℤ) → w.trace < clocks → answer_of w w.trace t ≡ ended 1 0 (Some t)
 unfolding answer_of related placed trace carried
 at_trace w t h =
     let z : dist (graph 1 w) w.trace ≡ 0 = goal_at (graph 1 w) h in

@@ -1,5 +1,5 @@
 -- What a search over the keys of two clocks' correspondences chooses is the correspondence that carries the reading. Assumes nothing.
-use Rattle.std.specs.Prelude.{◌≡◌, true, false, cond, not, List, [], ◌∷◌, ℕ, ◌+◌, ◌*◌, ◌-◌, ◌/◌, ◌%◌, ◌^◌, ◌≤◌, ◌<◌, eqb, length, get_or, take, set, ℤ}
+use Rattle.std.specs.Prelude.{◌≡◌, true, false, cond, not, List, [], ◌∷◌, ℕ, ◌+◌, ◌*◌, ◌-◌, ◌/◌, ◌%◌, ◌^◌, ◌≤◌, ◌<◌, eqb, length, get_or, take, set, ℤ, Option, Some}
 use Rattle.std.proofs.Math.Path.{refl}
 use Rattle.std.proofs.Common.{sym, ap, ◌∙◌, not-suc-le-zero, below_more, get_or-set_same, get_or-set_other, SFits}
 use native.Mathlib.Omega.{arith}
@@ -10,8 +10,6 @@ use Rattle.std.specs.Int.{w64}
 use borrow.Author.Tests.{eq-eqb, ne_eqb, lt-ltb, le-ltb}
 use Rattle.paths.specs.Paths.{least}
 use Rattle.paths.specs.laws.Least.{least_le, least_to, least_from}
-use Rattle.whole.specs.declared.Sum.{Sum}
-use Rattle.whole.specs.declared.Sum.TheVariants.{In}
 use Rattle.whole.specs.Whole.{excess, shifted_of}
 use Rattle.whole.specs.Pairs.{Pair, xs_of, ys_of, converted, nth, Carries}
 use Rattle.whole.proofs.Theorems.{convert_at}
@@ -104,23 +102,23 @@ pub record Searchable (xs ys : List ℤ) (ks os : List ℕ) (lo hi : ℕ) : Type
   pub rising : Rising ks lo hi
 
 -- a reading carried by the numbers from lo to hi: by the last whose key is at most the reading's, else by the first; unchanged if there is none
-unfoldable pub carried_in : List ℤ → List ℤ → List ℕ → List ℕ → ℕ → ℕ → ℤ → Sum
+unfoldable pub carried_in : List ℤ → List ℤ → List ℕ → List ℕ → ℕ → ℕ → ℤ → Option ℤ
 carried_in xs ys ks os lo hi t =
     let e = get_or os (chosen ks lo hi (excess t)) 0 in
-    cond (ltb lo hi) (shifted_of t (read_at xs ys e) (read_at ys xs e)) (In t)
+    cond (ltb lo hi) (shifted_of t (read_at xs ys e) (read_at ys xs e)) (Some t)
 
 module _ (xs ys : List ℤ) (ks os : List ℕ) (lo hi : ℕ) (t : ℤ) where
   pub in_some : lo < hi → (j : ℕ) → j ≡ chosen ks lo hi (excess t) → carried_in xs ys ks os lo hi t ≡ shifted_of t (read_at xs ys (get_or os j 0)) (read_at ys xs (get_or os j 0))
   unfolding carried_in
   in_some h j e = rw (lt-ltb lo hi h, e) refl
 
-  pub in_none : hi ≤ lo → carried_in xs ys ks os lo hi t ≡ In t
+  pub in_none : hi ≤ lo → carried_in xs ys ks os lo hi t ≡ Some t
   unfolding carried_in
   in_none h = rw (le-ltb lo hi h) refl
 
 -- a reading carried over a pair of a graph: by the pair's list; unchanged if it has none, which is the zero offset
-unfoldable pub carried_over : List Pair → ℤ → Sum
-carried_over [] t = In t
+unfoldable pub carried_over : List Pair → ℤ → Option ℤ
+carried_over [] t = Some t
 carried_over (p ∷ ps) t = converted t (p ∷ ps)
 
 pub over_list : (ps : List Pair) (t : ℤ) → (0 < length ps) → carried_over ps t ≡ converted t ps
@@ -128,7 +126,7 @@ unfolding carried_over
 over_list [] t h = absurd (not-suc-le-zero h)
 over_list (p ∷ ps) t h = refl
 
-pub over_none : (ps : List Pair) (t : ℤ) → ps ≡ [] → carried_over ps t ≡ In t
+pub over_none : (ps : List Pair) (t : ℤ) → ps ≡ [] → carried_over ps t ≡ Some t
 unfolding carried_over
 over_none ps t e = rw e refl
 
@@ -346,7 +344,7 @@ module _ (fs : List ℕ) (xs : List ℤ) (gs : List ℕ) (ys : List ℤ) (c d : 
                 go i g k q (no z) = let v : get_or ks j 0 ≤ get_or ks i 0 = range_rising j i a (omega arith) k in (omega (arith, mine), omega (arith, mine))
 
         -- none: the two clocks have no list
-        range_none : hi ≤ lo → carried_over list t ≡ In t
+        range_none : hi ≤ lo → carried_over list t ≡ Some t
         range_none g = over_none list t (empty list (λ h. let (f, s, q) = arc_found 0 h in let (i, a, b, u) = stands_at f s in omega arith))
           where
             empty : (ps : List Pair) → (0 < length ps → ⊥) → ps ≡ []

@@ -1,9 +1,9 @@
 -- The rows of three numbers that hold the answers, graph by graph. Assumes nothing.
-use Rattle.std.specs.Prelude.{◌≡◌, Bool, true, false, cond, not, ◌&&◌, eqb, leb, length, get_or, set, replicate, ℤ, pos}
+use Rattle.std.specs.Prelude.{◌≡◌, Bool, true, false, cond, not, ◌&&◌, eqb, leb, length, get_or, set, replicate, ℤ, pos, Option, Some, None}
 use Rattle.std.proofs.Math.Path.{refl}
 use Rattle.std.proofs.Common.{sym, ap, ◌∙◌, true≢false, not-suc-le-zero, le_antisymm, arith, length-set, length-append, get_or-set_same, get_or-set_other, get_or-append-add, ext_get_or, SFits, below_more, eq-eqb, ne_eqb, eqb-true, leb-true}
 use mathlib.Core.List.{List, [], ◌∷◌, ◌++◌, map}
-use Prim.Native.Nat.{ℕ, zero, suc, ◌+◌, ◌*◌, ◌-◌, ◌≤◌, ◌<◌, zero-le}
+use Prim.Native.Nat.{ℕ, min, zero, suc, ◌+◌, ◌*◌, ◌-◌, ◌≤◌, ◌<◌, zero-le}
 use Rattle.std.proofs.Math.Decide.{dec_lt}
 use Rattle.std.proofs.lemmas.List.{length-replicate, get_or-replicate}
 use Rattle.std.proofs.Math.ListN.{get_or-eq_default, get_or-append}
@@ -11,21 +11,12 @@ use Rattle.std.specs.Int.Signed.{lt_z}
 use Rattle.std.specs.Int.{w64}
 use Rattle.numbers.specs.Numbers.{clocks}
 use Rattle.paths.specs.laws.Least.{and_left, and_right}
-use Rattle.graphs.specs.laws.Matrix.{Smaller}
-use Rattle.whole.specs.declared.Sum.{Sum}
-use Rattle.whole.specs.declared.Sum.TheVariants.{In, Out}
+use Rattle.clocks.specs.declared.Row.{Row}
 use Rattle.whole.specs.Pairs.{nth}
 use Rattle.paths.specs.Matrix.{distances, nexts}
 use Rattle.graphs.specs.Graphs.{World, graph}
-use Rattle.clocks.specs.declared.Answer.{Answer}
-use Rattle.clocks.specs.declared.Answer.TheVariants.{Placed, Dropped}
-use Rattle.clocks.specs.Answers.{most, fits, filled, Room, ended, placed, related, answer_of, answers_of, time_of, kind_of, steps_of, unrelated, padded}
+use Rattle.clocks.specs.Answers.{Answer, Placed, Dropped, most, fits, filled, Room, ended, placed, related, answer_of, answers_of, time_of, kind_of, steps_of, unrelated, padded}
 use Rattle.clocks.specs.laws.Walk.{Agrees, has_path, placed_by, path_related, placed_by_lem}
-
-pub record Row : Type 0 where
-  pub time : ℤ
-  pub kind : ℕ
-  pub steps : ℕ
 
 abbrev pub row_of : Answer → Row
 row_of a = record { time = time_of a; kind = kind_of a; steps = steps_of a }
@@ -41,7 +32,7 @@ abbrev pub pending : ℕ
 pending = 4
 
 -- a row, once graph g has been tried
-unfoldable pub tried : ℕ → (ℕ → ℤ → Sum) → List ℕ → List ℕ → ℕ → ℤ → Row → Row
+unfoldable pub tried : ℕ → (ℕ → ℤ → Option ℤ) → List ℕ → List ℕ → ℕ → ℤ → Row → Row
 tried g f ds ns c t r = cond (eqb r.kind pending && has_path ds c) (row_of (placed_by g f ds ns c t)) r
 
 -- the events' lists and their memories go as far as n
@@ -94,11 +85,11 @@ module _ {f : ℕ → Row → Row} {ts₀ : List ℤ} {ks₀ ss₀ : List ℕ} {
   pub pass_kind_at : get_or ks i 0 ≡ get_or ks₀ i 0
   pass_kind_at = ap (λ (r : Row). r.kind) (p.rest i (omega arith))
 
-pub tried_other : (g : ℕ) (f : ℕ → ℤ → Sum) (ds ns : List ℕ) (c : ℕ) (t : ℤ) (r : Row) → (r.kind ≡ pending → ⊥) → tried g f ds ns c t r ≡ r
+pub tried_other : (g : ℕ) (f : ℕ → ℤ → Option ℤ) (ds ns : List ℕ) (c : ℕ) (t : ℤ) (r : Row) → (r.kind ≡ pending → ⊥) → tried g f ds ns c t r ≡ r
 unfolding tried
 tried_other g f ds ns c t r n = rw (ne_eqb r.kind pending n) refl
 
-pub tried_none : (g : ℕ) (f : ℕ → ℤ → Sum) (ds ns : List ℕ) (c : ℕ) (t : ℤ) (r : Row) → has_path ds c ≡ false → tried g f ds ns c t r ≡ r
+pub tried_none : (g : ℕ) (f : ℕ → ℤ → Option ℤ) (ds ns : List ℕ) (c : ℕ) (t : ℤ) (r : Row) → has_path ds c ≡ false → tried g f ds ns c t r ≡ r
 unfolding tried
 tried_none g f ds ns c t r n = rw (n, none (eqb r.kind pending)) refl
   where
@@ -106,7 +97,7 @@ tried_none g f ds ns c t r n = rw (n, none (eqb r.kind pending)) refl
     none true = refl
     none false = refl
 
-pub tried_new : (g : ℕ) (f : ℕ → ℤ → Sum) (ds ns : List ℕ) (c : ℕ) (t : ℤ) (r : Row) → r.kind ≡ pending → has_path ds c ≡ true → tried g f ds ns c t r ≡ row_of (placed_by g f ds ns c t)
+pub tried_new : (g : ℕ) (f : ℕ → ℤ → Option ℤ) (ds ns : List ℕ) (c : ℕ) (t : ℤ) (r : Row) → r.kind ≡ pending → has_path ds c ≡ true → tried g f ds ns c t r ≡ row_of (placed_by g f ds ns c t)
 unfolding tried
 tried_new g f ds ns c t r e h = rw (eq-eqb r.kind pending e, h) refl
 
@@ -115,7 +106,7 @@ tried_new g f ds ns c t r e h = rw (eq-eqb r.kind pending e, h) refl
 unfoldable pub tried_in : ℕ → World → ℕ → ℤ → Row → Row
 tried_in g w c t r = cond (eqb r.kind pending && related g w c) (row_of (placed g w c t)) r
 
-pub tried_in_lem : (g : ℕ) (w : World) (f : ℕ → ℤ → Sum) → Agrees f w.links (nexts (graph g w)) → (c : ℕ) (t : ℤ) (r : Row) → SFits w64 t → tried g f (distances (graph g w)) (nexts (graph g w)) c t r ≡ tried_in g w c t r
+pub tried_in_lem : (g : ℕ) (w : World) (f : ℕ → ℤ → Option ℤ) → Agrees f w.links (nexts (graph g w)) → (c : ℕ) (t : ℤ) (r : Row) → SFits w64 t → tried g f (distances (graph g w)) (nexts (graph g w)) c t r ≡ tried_in g w c t r
 unfolding tried tried_in
 tried_in_lem g w f a c t r s = rw (path_related g w c) (go (related g w c) refl)
   where
@@ -132,19 +123,19 @@ unfolding tried_in
 tried_in_other g w c t r n = rw (ne_eqb r.kind pending n) refl
 
 -- a placed or dropped event is no longer pending
-kind_some : (g n : ℕ) (s : Sum) → g < 4 → kind_of (ended g n s) ≡ pending → ⊥
+kind_some : (g n : ℕ) (s : Option ℤ) → g < 4 → kind_of (ended g n s) ≡ pending → ⊥
 unfolding ended kind_of
-kind_some g n Out h e = omega arith
-kind_some g n (In t) h e = go (lt_z t (pos 0)) e
+kind_some g n None h e = omega arith
+kind_some g n (Some t) h e = go (lt_z t (pos 0)) e
   where
     go : (b : Bool) → kind_of (cond b (Dropped 3) (Placed t g n)) ≡ pending → ⊥
     go true e = omega arith
     go false e = omega arith
 
-pub kind_small : (g n : ℕ) (s : Sum) → g < 256 → kind_of (ended g n s) < 256
+pub kind_small : (g n : ℕ) (s : Option ℤ) → g < 256 → kind_of (ended g n s) < 256
 unfolding ended kind_of
-kind_small g n Out h = omega arith
-kind_small g n (In t) h = go (lt_z t (pos 0))
+kind_small g n None h = omega arith
+kind_small g n (Some t) h = go (lt_z t (pos 0))
   where
     go : (b : Bool) → kind_of (cond b (Dropped 3) (Placed t g n)) < 256
     go true = omega arith
@@ -179,19 +170,9 @@ pub record Marked (ks₀ ks : List ℕ) (i : ℕ) : Type 0 where
   pub done : (j : ℕ) → j < i → get_or ks j 0 ≡ pending
   pub rest : (j : ℕ) → i ≤ j → get_or ks j 0 ≡ get_or ks₀ j 0
 
-pub mark_more : {ks₀ ks : List ℕ} {i : ℕ} → Marked ks₀ ks i → i < length ks₀ → Marked ks₀ (set ks i pending) (i + 1)
-mark_more {ks₀} {ks} {i} m h = record {
-  same = length-set ks i pending ∙ m.same;
-  done = below_more _ i (λ j l. get_or-set_other ks i j pending 0 (λ q. omega arith) ∙ m.done j l) (get_or-set_same ks i pending 0 (omega (arith, m.same)));
-  rest = λ j l. get_or-set_other ks i j pending 0 (λ q. omega arith) ∙ m.rest j (omega arith);
-}
-
 -- no kind below n is pending
 pub record Settled (ks : List ℕ) (n : ℕ) : Type 0 where
   pub none : (j : ℕ) → j < n → get_or ks j 0 ≡ pending → ⊥
-
-pub settled_more : {ks : List ℕ} {i : ℕ} → Settled ks i → (get_or ks i 0 ≡ pending → ⊥) → Settled ks (i + 1)
-settled_more {i = i} s n = record { none = below_more _ i s.none n }
 
 pub settled_if : {ks : List ℕ} {n : ℕ} (b : Bool) → (b ≡ false → Settled ks n) → not b ≡ true → Settled ks n
 settled_if true s e = absurd (true≢false (sym e))
@@ -255,7 +236,7 @@ module _ (w : World) where
                 ∙ ap (λ (i : ℕ). get_or (padded z room (map f (answers_of w cs ts))) i z) q
 
 -- a pass by the tables of a graph is a pass by the graph
-pub passed_in : {ts₀ : List ℤ} {ks₀ ss₀ : List ℕ} {ts : List ℤ} {ks ss : List ℕ} {n : ℕ} (g : ℕ) (w : World) (f : ℕ → ℤ → Sum) (ds ns cs : List ℕ) (rs : List ℤ)
+pub passed_in : {ts₀ : List ℤ} {ks₀ ss₀ : List ℕ} {ts : List ℤ} {ks ss : List ℕ} {n : ℕ} (g : ℕ) (w : World) (f : ℕ → ℤ → Option ℤ) (ds ns cs : List ℕ) (rs : List ℤ)
     → Agrees f w.links ns → ds ≡ distances (graph g w) → ns ≡ nexts (graph g w) → ((j : ℕ) → j < n → SFits w64 (nth rs j))
     → Passed (λ j r. tried g f ds ns (get_or cs j 0) (nth rs j) r) ts₀ ks₀ ss₀ ts ks ss n
     → Passed (λ j r. tried_in g w (get_or cs j 0) (nth rs j) r) ts₀ ks₀ ss₀ ts ks ss n
@@ -436,10 +417,10 @@ fitting links events room e =
     }
 
 -- the number of events is the smaller of two counts
-pub events_are : (w : World) (cs : List ℕ) (rs : List ℤ) (n : ℕ) → Smaller (length cs) (length rs) n → n ≡ length (answers_of w cs rs)
+pub events_are : (w : World) (cs : List ℕ) (rs : List ℤ) (n : ℕ) → n ≡ min (length cs) (length rs) → n ≡ length (answers_of w cs rs)
 events_are w cs rs n s =
     let m = answers_most w cs rs in
-    le_antisymm (answers_least w cs rs n s.left s.right) (s.most (length (answers_of w cs rs)) m.0 m.1)
+    le_antisymm (answers_least w cs rs n (omega arith) (omega arith)) (omega (arith, m.0, m.1))
 
 module _ (w : World) (cs : List ℕ) (rs : List ℤ) (n nt nk ns nm : ℕ) where
   abbrev room : Room
@@ -464,8 +445,8 @@ module _ (w : World) (cs : List ℕ) (rs : List ℤ) (n nt nk ns nm : ℕ) where
     pub room_matrix : nm ≡ clocks * clocks
     room_matrix = fit.matrix
 
-    pub room_space : Smaller (length cs) (length rs) n → Spacious n cs rs ts ks ss
-    room_space s = record { on = s.left; reads = s.right; times = omega (arith, fit.times, lt); kinds = omega (arith, fit.kinds, lk); steps = omega (arith, fit.steps, ls) }
+    pub room_space : n ≡ min (length cs) (length rs) → Spacious n cs rs ts ks ss
+    room_space s = record { on = omega arith; reads = omega arith; times = omega (arith, fit.times, lt); kinds = omega (arith, fit.kinds, lk); steps = omega (arith, fit.steps, ls) }
 
     pub room_blank : Blank ts ks ss
     room_blank = record { times = λ j. zeros_at (pos 0) nt ts j T; kinds = λ j. zeros_at 0 nk ks j K; steps = λ j. zeros_at 0 ns ss j S }

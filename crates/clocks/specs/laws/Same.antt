@@ -1,11 +1,9 @@
 -- Two worlds whose lists agree in what they list first of each x have the same answers. Assumes nothing.
-use Rattle.std.specs.Prelude.{◌≡◌, Bool, ◌||◌, ℕ, zero, suc, length, ℤ}
+use Rattle.std.specs.Prelude.{◌≡◌, Bool, ◌||◌, ℕ, zero, suc, length, ℤ, Option, Some, None}
 use Rattle.std.proofs.Math.Path.{refl, ap, ap₂}
 use Rattle.std.proofs.Common.{sym, ◌∙◌, arith}
 use mathlib.Core.List.{List, [], ◌∷◌}
 use Rattle.std.proofs.Math.Dec.{ltb}
-use Rattle.whole.specs.declared.Sum.{Sum}
-use Rattle.whole.specs.declared.Sum.TheVariants.{In, Out}
 use Rattle.whole.specs.Pairs.{Pair, converted}
 use Rattle.paths.specs.Paths.{Net, dist, next, trace, path}
 use Rattle.paths.specs.Matrix.{far}
@@ -13,8 +11,7 @@ use Rattle.graphs.specs.Links.{list_of}
 use Rattle.graphs.specs.Graphs.{World, to_trace, guess, or_guess, along, some, joined, graph}
 use Rattle.graphs.specs.laws.Matrix.{joined_is}
 use Rattle.graphs.specs.laws.Same.{Alike, dist_same, next_same}
-use Rattle.clocks.specs.declared.Answer.{Answer}
-use Rattle.clocks.specs.Answers.{through, carried, ended, placed, related, answer_of, answers_of}
+use Rattle.clocks.specs.Answers.{Answer, through, carried, ended, placed, related, answer_of, answers_of}
 use Rattle.clocks.specs.laws.Firsts.{Firsts, firsts_convert}
 use Rattle.clocks.specs.Statements.{SameWorld}
 
@@ -61,14 +58,14 @@ module _ {w u : World} (s : SameWorld w u) where
   alike g = record { size = refl; goal = s.trace; far = refl; pairs = λ c d _ _. joined_same g c d }
 
   -- ---- the same value along it
-  through_same : (g c d : ℕ) (v : Sum) → through (along g w c d) v ≡ through (along g u c d) v
+  through_same : (g c d : ℕ) (v : Option ℤ) → through (along g w c d) v ≡ through (along g u c d) v
   unfolding through along
-  through_same g c d Out = refl
-  through_same g c d (In t) =
+  through_same g c d None = refl
+  through_same g c d (Some t) =
       guess_convert (guess g w c d) t (list_of w.links c d) (list_of u.links c d) (s.to c d) (s.from c d)
       ∙ ap (λ (b : Bool). converted t (or_guess b (list_of u.links c d))) (guess_same g c d)
 
-  carried_same : (g c : ℕ) (p : List ℕ) (v : Sum) → carried g w c p v ≡ carried g u c p v
+  carried_same : (g c : ℕ) (p : List ℕ) (v : Option ℤ) → carried g w c p v ≡ carried g u c p v
   unfolding carried
   carried_same g c [] v = refl
   carried_same g c (d ∷ p) v = carried_same g d p (through (along g w c d) v) ∙ ap (carried g u d p) (through_same g c d v)
@@ -81,8 +78,8 @@ module _ {w u : World} (s : SameWorld w u) where
   placed_same : (g c : ℕ) (t : ℤ) → placed g w c t ≡ placed g u c t
   unfolding placed
   placed_same g c t =
-      ap (ended g (length (path (graph g w) c))) (carried_same g c (path (graph g w) c) (In t))
-      ∙ ap (λ (p : List ℕ). ended g (length p) (carried g u c p (In t))) (path_same (alike g) c)
+      ap (ended g (length (path (graph g w) c))) (carried_same g c (path (graph g w) c) (Some t))
+      ∙ ap (λ (p : List ℕ). ended g (length p) (carried g u c p (Some t))) (path_same (alike g) c)
 
   pub answer_same : (c : ℕ) (t : ℤ) → answer_of w c t ≡ answer_of u c t
   unfolding answer_of

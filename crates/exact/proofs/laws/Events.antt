@@ -10,13 +10,12 @@ use Rattle.manifest.proofs.laws.Lists.{at_below}
 use Rattle.records.specs.declared.Event.{Event}
 use Rattle.paths.specs.Paths.{Leads}
 use Rattle.graphs.specs.Graphs.{World, graph}
-use Rattle.clocks.specs.declared.Answer.{Answer}
-use Rattle.clocks.specs.declared.Answer.TheVariants.{Placed, Dropped}
-use Rattle.clocks.specs.Answers.{answer_of, time_of, kind_of, steps_of}
+use Rattle.clocks.specs.Answers.{Answer, Placed, Dropped, answer_of, time_of, kind_of, steps_of}
 use Rattle.clocks.specs.Theorems.{unrelated_no_chain, no_chain_unrelated, placed_exactly, exact_placed, early_exactly, exact_early}
 use Rattle.merged.specs.Facts.{Parts, facts_of}
 use Rattle.merged.specs.Timeline.{event_clock, world_of}
-use Rattle.merged.specs.Merged.{Room, Outcome, accepted_by}
+use Rattle.merged.specs.declared.Room.{Room}
+use Rattle.merged.specs.Merged.{Outcome, accepted_by}
 use Rattle.merged.proofs.Demands.{answer_at, time_of_event, kind_of_event, steps_of_event}
 use Rattle.exact.specs.Words.{IsPlaced, IsOutside, IsEarly, Holds}
 use Rattle.exact.proofs.laws.Lists.{at_get_d}

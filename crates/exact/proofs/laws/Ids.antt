@@ -18,7 +18,8 @@ use Rattle.manifest.proofs.laws.Lists.{at_below}
 use Rattle.records.specs.declared.Source.{Source}
 use Rattle.merged.specs.Facts.{Filed, no_file, Parts, unlisted, said, Given, silent, given_by, SourceFact, no_source, source_fact, Facts, facts_of}
 use Rattle.merged.specs.Machines.{sources_in, is_silent, without, distinct, by_id, ids_by, unnamed, unnamed_machine, machine_by, machine_of}
-use Rattle.merged.specs.Merged.{Room, Outcome, accepted_by}
+use Rattle.merged.specs.declared.Room.{Room}
+use Rattle.merged.specs.Merged.{Outcome, accepted_by}
 use Rattle.merged.proofs.Demands.{machine_of_source}
 use Rattle.exact.specs.Words.{Lists, ListedFile, SourceOf, Unsaid, ById}
 use Rattle.exact.proofs.laws.Lists.{any_some, no_true, both, at_get_d, get_d_at, at_only, at_map, map_at, First, found, none, first_or_lem}

@@ -13,8 +13,9 @@ use Rattle.merged.specs.Facts.{Parts, parts_of, facts_of}
 use Rattle.merged.specs.Machines.{machine_count}
 use Rattle.merged.specs.Refusals.{checks, first_of, refusal_32_path_not_in_sheet, refusal_33_clocks_on_a_container, refusal_34_id_not_declared, refusal_35_machine_on_several_sources, refusal_36_pinned_file_with_a_snapshot, refusal_37_too_many_machines}
 use Rattle.merged.specs.declared.Summary.{Summary}
-use Rattle.merged.specs.declared.Answer.TheVariants.{Merged}
-use Rattle.merged.specs.Merged.{records_of, Room, roomy, Outcome, accepted_by, merged}
+use Rattle.merged.specs.Answers.{Merged}
+use Rattle.merged.specs.declared.Room.{Room}
+use Rattle.merged.specs.Merged.{records_of, roomy, Outcome, accepted_by, merged}
 use Rattle.merged.proofs.Demands.{Ends, by_manifest, by_sheet, by_both, by_room, by_none, demand_1, accepts}
 use Rattle.merged.proofs.laws.Shape.{passed}
 use Rattle.exact.specs.Words.{NoneTogether, Agrees}

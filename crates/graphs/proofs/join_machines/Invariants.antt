@@ -1,11 +1,8 @@
 -- `graphs::join_machines` meets its contract: the machines passed are joined (`part_more`).
-use Prim.Native.Nat.{◌-◌, ◌*◌, ◌≤◌}
+use Prim.Native.Nat.{◌*◌}
 use Rattle.graphs.specs.laws.Added.{Added}
 use Rattle.graphs.specs.laws.Guesses.{Part}
 use Rattle.graphs.proofs.join_machines.Given as goal
 
 abbrev pub invariant-loop-m : goal.invariant-loop-m
-invariant-loop-m l = Added (Part l.g 0 (6 * l.m)) l.initial.matrix l.matrix × (l.m ≤ l.machines)
-
-abbrev pub decreases-loop-m : goal.decreases-loop-m
-decreases-loop-m l = l.machines - l.m
+invariant-loop-m l = Added (Part l.g 0 (6 * l.m)) l.initial.matrix l.matrix

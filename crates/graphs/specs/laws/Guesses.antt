@@ -1,5 +1,5 @@
 -- The guesses of a graph as pairs that are added one after the other: domains machine by machine, and then files. Assumes nothing.
-use Rattle.std.specs.Prelude.{◌≡◌, Bool, false, cond, ◌&&◌, ◌||◌, List, [], ◌⊎◌, ℕ, ◌+◌, ◌*◌, ◌-◌, ◌/◌, ◌%◌, ◌^◌, ◌≤◌, ◌<◌, leb}
+use Rattle.std.specs.Prelude.{Some, ◌≡◌, Bool, false, cond, ◌&&◌, ◌||◌, List, [], ◌⊎◌, ℕ, ◌+◌, ◌*◌, ◌-◌, ◌/◌, ◌%◌, ◌^◌, ◌≤◌, ◌<◌, leb}
 use Rattle.std.proofs.Math.Path.{refl, sym}
 use Rattle.std.proofs.Common.{ap, ◌∙◌, arith}
 use Rattle.std.proofs.Math.Bool.{true, not}
@@ -208,11 +208,11 @@ module _ (pinned trace : ℕ) (k : File) (t : List ℕ) where
       fro e f he hf r = record { left = r.goal; right = omega (arith, r.from, r.to, private_number k (omega (arith, r.from))) }
 
 -- ---- what a clock is
-own_domain : (e : ℕ) → e < 192 → owner e ≡ Domain (e % 6 + 1) (record { 0 = e / 6 })
+own_domain : (e : ℕ) → e < 192 → owner e ≡ Some (Domain (e % 6 + 1) (record { 0 = e / 6 }))
 unfolding what_is
 own_domain e h = rw (lt-ltb e 192 h) refl
 
-own_file : (e : ℕ) → 192 ≤ e → e < clocks → owner e ≡ Private (record { 0 = e - 192 })
+own_file : (e : ℕ) → 192 ≤ e → e < clocks → owner e ≡ Some (Private (record { 0 = e - 192 }))
 unfolding what_is
 own_file e h l = rw (le-ltb e 192 h, lt-ltb e clocks l) refl
 

@@ -181,9 +181,3 @@ not_pinned pinned f h l =
     let p : 2 ^ 32 ≤ 2 ^ f = pow-le-pow_right (omega arith) l in
     let z : pinned / 2 ^ f ≡ 0 = div-eq_of_lt (omega arith) in
     rw z refl
-
--- ---- the smaller of two counts
-pub record Smaller (p q r : ℕ) : Type 0 where
-  pub left : r ≤ p
-  pub right : r ≤ q
-  pub most : (m : ℕ) → m ≤ p → m ≤ q → m ≤ r

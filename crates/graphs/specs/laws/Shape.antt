@@ -1,9 +1,9 @@
 -- The graphs are symmetric, and each contains the one before. Assumes nothing.
-use Rattle.std.specs.Prelude.{◌≡◌, refl, Bool, true, false, not, ◌&&◌, ◌||◌, List, [], ◌∷◌, ◌++◌, map, ℕ, ◌≤◌, eqb, leb, ltb}
+use Rattle.std.specs.Prelude.{Option, Some, None, ◌≡◌, refl, Bool, true, false, not, ◌&&◌, ◌||◌, List, [], ◌∷◌, ◌++◌, map, ℕ, ◌≤◌, eqb, leb, ltb}
 use Rattle.std.proofs.Common.{sym, ap, ap₂, ◌∙◌, arith, eq-eqb, ne_eqb, le-leb, leb-true}
 use Rattle.std.proofs.Math.Decide.{ℕ_discrete}
 use Rattle.numbers.specs.declared.Owner.{Owner}
-use Rattle.numbers.specs.declared.Owner.TheVariants.{Domain, Private, Nobody}
+use Rattle.numbers.specs.declared.Owner.TheVariants.{Domain, Private}
 use Rattle.whole.specs.Pairs.{Pair, swapped}
 use Rattle.paths.specs.laws.Least.{and_left, and_right, and_both}
 use Rattle.paths.specs.Statements.{Within}
@@ -67,21 +67,21 @@ and_swap true false true = refl
 and_swap true false false = refl
 and_swap false q r = refl
 
-domains_sym : (g n : ℕ) (p q : Owner) → domains g n p q ≡ domains g n q p
+domains_sym : (g n : ℕ) (p q : Option Owner) → domains g n p q ≡ domains g n q p
 unfolding domains
-domains_sym g n (Domain d m) (Domain e k) = go (ℕ_discrete d e)
+domains_sym g n (Some (Domain d m)) (Some (Domain e k)) = go (ℕ_discrete d e)
   where
     go : Dec (d ≡ e) → ((((eqb d e && (leb 3 g || eqb d 1)) && not (eqb m.0 k.0)) && ltb m.0 n) && ltb k.0 n) ≡ ((((eqb e d && (leb 3 g || eqb e 1)) && not (eqb k.0 m.0)) && ltb k.0 n) && ltb m.0 n)
     go (yes s) = rw (s, eqb_sym m.0 k.0) (and_swap ((eqb e e && (leb 3 g || eqb e 1)) && not (eqb k.0 m.0)) (ltb m.0 n) (ltb k.0 n))
     go (no s) = rw (ne_eqb d e s, ne_eqb e d (λ z. s (sym z))) refl
-domains_sym g n (Domain d m) (Private f) = refl
-domains_sym g n (Domain d m) Nobody = refl
-domains_sym g n (Private f) (Domain d m) = refl
-domains_sym g n (Private f) (Private h) = refl
-domains_sym g n (Private f) Nobody = refl
-domains_sym g n Nobody (Domain d m) = refl
-domains_sym g n Nobody (Private f) = refl
-domains_sym g n Nobody Nobody = refl
+domains_sym g n (Some (Domain d m)) (Some (Private f)) = refl
+domains_sym g n (Some (Domain d m)) None = refl
+domains_sym g n (Some (Private f)) (Some (Domain d m)) = refl
+domains_sym g n (Some (Private f)) (Some (Private h)) = refl
+domains_sym g n (Some (Private f)) None = refl
+domains_sym g n None (Some (Domain d m)) = refl
+domains_sym g n None (Some (Private f)) = refl
+domains_sym g n None None = refl
 
 pub guess_sym : (g : ℕ) (w : World) (c d : ℕ) → guess g w c d ≡ guess g w d c
 unfolding guess
@@ -106,9 +106,9 @@ or_left false q r s f h e = rw (h e) (always r)
 more : (k g h : ℕ) → g ≤ h → leb k g ≡ true → leb k h ≡ true
 more k g h l e = le-leb k h (omega (arith, leb-true k g e))
 
-domains_more : (g h n : ℕ) (p q : Owner) → g ≤ h → domains g n p q ≡ true → domains h n p q ≡ true
+domains_more : (g h n : ℕ) (p q : Option Owner) → g ≤ h → domains g n p q ≡ true → domains h n p q ≡ true
 unfolding domains
-domains_more g h n (Domain d m) (Domain e k) l s =
+domains_more g h n (Some (Domain d m)) (Some (Domain e k)) l s =
     let a = eqb d e in
     let b = leb 3 g || eqb d 1 in
     let x = not (eqb m.0 k.0) in
@@ -118,10 +118,10 @@ domains_more g h n (Domain d m) (Domain e k) l s =
     let s₂ = and_left ((a && b) && x) y s₁ in
     let s₃ = and_left (a && b) x s₂ in
     and_both _ _ (and_both _ _ (and_both _ _ (and_both _ _ (and_left a b s₃) (or_left (leb 3 g) (eqb d 1) (leb 3 h) (eqb d 1) (more 3 g h l) (λ u. u) (and_right a b s₃))) (and_right (a && b) x s₂)) (and_right ((a && b) && x) y s₁)) (and_right (((a && b) && x) && y) z s)
-domains_more g h n (Domain d m) (Private f) l s = s
-domains_more g h n (Domain d m) Nobody l s = s
-domains_more g h n (Private f) q l s = s
-domains_more g h n Nobody q l s = s
+domains_more g h n (Some (Domain d m)) (Some (Private f)) l s = s
+domains_more g h n (Some (Domain d m)) None l s = s
+domains_more g h n (Some (Private f)) q l s = s
+domains_more g h n None q l s = s
 
 guess_more : (g h : ℕ) (w : World) (c d : ℕ) → g ≤ h → guess g w c d ≡ true → guess h w c d ≡ true
 unfolding guess

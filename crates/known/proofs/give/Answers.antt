@@ -8,4 +8,4 @@ use Rattle.known.proofs.give.Goals as goal
 
 pub returns : goal.returns
 unfolding given_by
-returns c = λ i. record { links = c.args.links; events = c.args.table.events.count; machines = (c.byte-machines.ensures ∙ ap (λ (n : ℕ). min 255 n) c.machines-count.ensures.0) i; files = c.byte-files.ensures i; pinned = c.pinned.ensures i; trace = record { 0 = (c.clock-trace.ensures ∙ ap (trace_by (facts_by c.args.t.now)) c.timeline-asked.ensures) i } }
+returns c = λ i. record { links = c.args.links; events = c.args.table.events.count; machines = (c.byte.ensures ∙ ap (λ (n : ℕ). min 255 n) c.machines-count.ensures.0) i; files = c.byte-2.ensures i; pinned = c.pinned.ensures i; trace = record { 0 = (c.clock-trace.ensures ∙ ap (trace_by (facts_by c.args.t.now)) c.timeline-asked.ensures) i } }

@@ -6,8 +6,7 @@ use Rattle.sheet.specs.Sheets.{read_of}
 use Rattle.sheet.specs.Accepted.{Accepted, accepted}
 use Rattle.sheet.specs.declared.Run.{Run}
 use Rattle.sheet.specs.declared.Table.{Table}
-use Rattle.sheet.specs.declared.Sheet.{Sheet}
-use Rattle.sheet.specs.declared.Sheet.TheVariants.{Refused, Listed}
+use Rattle.sheet.specs.Sheets.{Sheet, Refused, Listed}
 use Rattle.graphs.specs.Links.{Link}
 use Rattle.merged.specs.Merged.{padded}
 use Rattle.checks.specs.Machines.{machine_table}

@@ -7,8 +7,7 @@ use Rattle.text.specs.laws.Readers.{pick_true, pick_false}
 use Rattle.manifest.specs.Manifest.{refusal_of}
 use Rattle.sheet.specs.Sheets.{read_of}
 use Rattle.sheet.specs.declared.Table.{Table}
-use Rattle.sheet.specs.declared.Sheet.{Sheet}
-use Rattle.sheet.specs.declared.Sheet.TheVariants.{Refused as SheetRefused, Listed}
+use Rattle.sheet.specs.Sheets.{Sheet, Refused as SheetRefused, Listed}
 use Rattle.reader.specs.Reader.{table_of, lookups_of}
 use Rattle.graphs.specs.Links.{Link}
 use Rattle.merged.specs.Refusals.{checks, first_of}
@@ -18,8 +17,7 @@ use Rattle.checks.specs.Machines.{machine_table}
 use Rattle.gather.specs.Gathered.{gathered}
 use Rattle.lines.specs.Lines.{links_by}
 use Rattle.placed.specs.declared.Given.{Given}
-use Rattle.placed.specs.declared.Told.{Told}
-use Rattle.placed.specs.declared.Told.TheVariants.{Refused, Accepted}
+use Rattle.placed.specs.Told.{Told, Refused, Accepted}
 use Rattle.known.specs.Known.{table_in, given_by, verdict_by, verdict, fact_table, links_in, given_in, told}
 use Rattle.known.specs.laws.Drawn.{Holds, Drawn, holds_same}
 

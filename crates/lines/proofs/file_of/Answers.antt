@@ -2,7 +2,7 @@
 use mathlib.Core.Path.{refl, sym, ◌∙◌}
 use native.Mathlib.Omega.{arith}
 use Rattle.merged.specs.Refusals.{listed_by}
-use Rattle.checks.specs.laws.Told.{listed_here, listed_not}
+use Rattle.lines.specs.laws.Listed.{listed_here, listed_not}
 use Rattle.checks.specs.Table.{file_number, file_by, files_in, facts_by}
 use Rattle.lines.specs.laws.Lists.{first_start, first_past, first_found, first_on}
 use Rattle.lines.proofs.file_of.Goals as goal

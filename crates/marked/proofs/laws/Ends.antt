@@ -9,15 +9,15 @@ use Rattle.records.specs.Layout.{Record}
 use Rattle.sheet.specs.Lists.{sources_of, events_of}
 use Rattle.sheet.specs.Sheets.{Out, refused, records}
 use Rattle.graphs.specs.Graphs.{World}
-use Rattle.clocks.specs.declared.Answer.{Answer as EventAnswer}
-use Rattle.clocks.specs.Answers.{answer_of, time_of, kind_of, steps_of}
+use Rattle.clocks.specs.Answers.{Answer as EventAnswer, answer_of, time_of, kind_of, steps_of}
 use Rattle.clocks.specs.laws.Chains.{Chosen}
 use Rattle.merged.specs.declared.Summary.{Summary}
-use Rattle.merged.specs.declared.Answer.TheVariants.{Merged}
+use Rattle.merged.specs.Answers.{Merged}
 use Rattle.merged.specs.Facts.{parts_of, facts_of}
 use Rattle.merged.specs.Refusals.{checks, first_of}
 use Rattle.merged.specs.Timeline.{event_clock, world_of}
-use Rattle.merged.specs.Merged.{records_of, Room, roomy, Outcome, refused_by, accepted_by, refusal_joined, joined, merged_with, merged}
+use Rattle.merged.specs.declared.Room.{Room}
+use Rattle.merged.specs.Merged.{records_of, roomy, Outcome, refused_by, accepted_by, refusal_joined, joined, merged_with, merged}
 use Rattle.merged.proofs.Demands.{time_of_event, kind_of_event, steps_of_event}
 use Rattle.marked.specs.Example.{enough, LongEnough, Written, OnPath, no_event}
 

@@ -1,5 +1,5 @@
 -- The marked merges: what is known of each two inputs, put together. Assumes nothing.
-use Rattle.std.specs.Prelude.{◌≡◌, refl, List, [], ◌∷◌, ℕ, pos, neg_ℤ}
+use Rattle.std.specs.Prelude.{◌≡◌, refl, List, [], ◌∷◌, ℕ, pos, neg_ℤ, Some}
 use Rattle.std.proofs.Common.{arith}
 use Rattle.std.proofs.Math.Numerals.{unary_clauses}
 use Rattle.text.specs.Reading.{Text}
@@ -7,9 +7,9 @@ use Rattle.manifest.specs.Meaning.{nothing_said}
 use Rattle.clocks.specs.Answers.{answers_of}
 use Rattle.manifest.specs.Manifest.{refusal_of, meaning_of}
 use Rattle.merged.specs.declared.Summary.{Summary}
-use Rattle.merged.specs.declared.Trace.TheVariants.{On}
-use Rattle.merged.specs.declared.Answer.TheVariants.{Merged}
-use Rattle.merged.specs.Merged.{records_of, Room, refused_by, answers_in, accepted_by, merged}
+use Rattle.merged.specs.Answers.{Merged}
+use Rattle.merged.specs.declared.Room.{Room}
+use Rattle.merged.specs.Merged.{records_of, refused_by, answers_in, accepted_by, merged}
 use Rattle.marked.specs.Inputs.{no_manifest, example, on_the_phone, eight_less, too_low, lowest, no_bytes, sheet_00, sheet_7, sheet_past, top}
 use Rattle.marked.specs.Example.{goes, holds, LongEnough, Written, OnPath, nothing_in_it}
 use Rattle.marked.proofs.laws.Opened.{of_worlds, of_answers}
@@ -52,7 +52,7 @@ known_lowest = record { manifest = lowest_means.0; meaning = lowest_means.1; she
 
 -- three files, three machines, one event, and trace time on this clock
 abbrev pub counts : ℕ → Summary
-counts trace = record { files = 3; machines = 3; events = 1; trace = On (record { 0 = trace }) }
+counts trace = record { files = 3; machines = 3; events = 1; trace = Some (record { 0 = trace }) }
 
 pub lowest_accepted : (room : Room) → LongEnough sheet_7 room → (merged lowest sheet_7 room).answer ≡ Merged (counts 5)
 unfolding of_worlds accepted_by

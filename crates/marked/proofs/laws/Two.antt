@@ -1,13 +1,13 @@
 -- Document 000's manifest with two app_log events, 7 and 9: what memory holds; and what a refusal leaves. The merges that are shut out fail on these. Assumes nothing.
-use Rattle.std.specs.Prelude.{◌≡◌, ℕ, zero, suc, pos, replicate}
+use Rattle.std.specs.Prelude.{◌≡◌, ℕ, zero, suc, pos, replicate, Some}
 use Rattle.std.proofs.Math.Path.{refl, ap}
 use Rattle.std.proofs.Common.{◌∙◌, arith}
 use Rattle.std.proofs.Math.ListN.{get_or}
 use Rattle.merged.specs.declared.Summary.{Summary}
-use Rattle.merged.specs.declared.Trace.TheVariants.{On}
-use Rattle.merged.specs.declared.Answer.TheVariants.{Merged}
+use Rattle.merged.specs.Answers.{Merged}
 use Rattle.merged.specs.Facts.{parts_of}
-use Rattle.merged.specs.Merged.{Room, Outcome, refused_by, accepted_by, merged}
+use Rattle.merged.specs.declared.Room.{Room}
+use Rattle.merged.specs.Merged.{Outcome, refused_by, accepted_by, merged}
 use Rattle.merged.proofs.Demands.{machine_of_source}
 use Rattle.marked.specs.Inputs.{no_manifest, example, no_bytes, sheet_7_9}
 use Rattle.marked.specs.Example.{LongEnough, Written}
@@ -23,7 +23,7 @@ known_7_9 = record { manifest = example_means.0; meaning = example_means.1; shee
 
 -- three files, three machines, two events, trace time on the host's BOOTTIME
 abbrev pub counts_7_9 : Summary
-counts_7_9 = record { files = 3; machines = 3; events = 2; trace = On (record { 0 = 5 }) }
+counts_7_9 = record { files = 3; machines = 3; events = 2; trace = Some (record { 0 = 5 }) }
 
 module _ (room : Room) (h : LongEnough sheet_7_9 room) where
   pub accepted_7_9 : (merged example sheet_7_9 room).answer ≡ Merged counts_7_9

@@ -4,8 +4,7 @@ use Rattle.std.proofs.Common.{arith}
 use Rattle.manifest.specs.Meaning.{nothing_said}
 use Rattle.paths.specs.Paths.{Leads}
 use Rattle.graphs.specs.Graphs.{World, graph}
-use Rattle.clocks.specs.declared.Answer.TheVariants.{Placed, Dropped}
-use Rattle.clocks.specs.Answers.{answer_of}
+use Rattle.clocks.specs.Answers.{Placed, Dropped, answer_of}
 use Rattle.clocks.specs.Theorems.{chosen_answer}
 use Rattle.clocks.specs.laws.Chains.{Chosen}
 use Rattle.clocks.specs.laws.Known.{shut_none, one_best, two_best, known_first, known_after}

@@ -7,22 +7,22 @@ use lib.IntN.{pos}
 use Rattle.merge.proofs.merge.Goals as goal
 
 pub slice_bounds-settle-end : goal.slice_bounds-settle-end
-slice_bounds-settle-end c = sym (held_length c.args.manifest.now c.args.sheet.now (λ (l : Link). l.a) 0 c.read-told.ensures.from)
+slice_bounds-settle-end c = sym (held_length c.args.manifest.now c.args.sheet.now (λ (l : Link). l.a) 0 c.read-both.ensures.from)
 
 pub slice_bounds-settle-end-2 : goal.slice_bounds-settle-end-2
-slice_bounds-settle-end-2 c = sym (held_length c.args.manifest.now c.args.sheet.now (λ (l : Link). l.x) (pos 0) c.read-told.ensures.reads)
+slice_bounds-settle-end-2 c = sym (held_length c.args.manifest.now c.args.sheet.now (λ (l : Link). l.x) (pos 0) c.read-both.ensures.reads)
 
 pub slice_bounds-settle-end-3 : goal.slice_bounds-settle-end-3
-slice_bounds-settle-end-3 c = sym (held_length c.args.manifest.now c.args.sheet.now (λ (l : Link). l.b) 0 c.read-told.ensures.to)
+slice_bounds-settle-end-3 c = sym (held_length c.args.manifest.now c.args.sheet.now (λ (l : Link). l.b) 0 c.read-both.ensures.to)
 
 pub slice_bounds-settle-end-4 : goal.slice_bounds-settle-end-4
-slice_bounds-settle-end-4 c = sym (held_length c.args.manifest.now c.args.sheet.now (λ (l : Link). l.y) (pos 0) c.read-told.ensures.gives)
+slice_bounds-settle-end-4 c = sym (held_length c.args.manifest.now c.args.sheet.now (λ (l : Link). l.y) (pos 0) c.read-both.ensures.gives)
 
 pub returns : goal.returns
 returns c =
     let same = settled_is c.args.manifest.now c.args.sheet.now c.args.machines.now c.args.times.now c.args.kinds.now c.args.steps.now c.args.matrix.now
-    c.args.readings.now c.args.clocks.now c.read-told.ensures.facts _ _ _ _ c.read-told.ensures.from c.read-told.ensures.reads c.read-told.ensures.to
-    c.read-told.ensures.gives c.read-told.ensures.told c.fitted-found.ensures in
+    c.args.readings.now c.args.clocks.now c.read-both.ensures.facts _ _ _ _ c.read-both.ensures.from c.read-both.ensures.reads c.read-both.ensures.to
+    c.read-both.ensures.gives c.read-both.ensures.told c.fitted-found.ensures in
     let s = c.settle.ensures in
     let so = with_outcome same (s.answer, (s.machines, (s.times, (s.kinds, (s.steps, s.matrix))))) in
     let rest = so.1.1.1 in

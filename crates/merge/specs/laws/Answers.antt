@@ -6,8 +6,7 @@ use Rattle.std.proofs.Math.Bool.{true}
 use Rattle.std.proofs.Math.ListN.{replicate}
 use Rattle.graphs.specs.Graphs.{World}
 use borrow.Author.Tests.{le-leb}
-use Rattle.clocks.specs.Answers.{Room, fits, answers_of, time_of, kind_of, steps_of, padded, Filled, filled}
-use Rattle.clocks.specs.declared.Answer.{Answer as EventAnswer}
+use Rattle.clocks.specs.Answers.{Room, fits, answers_of, time_of, kind_of, steps_of, padded, Filled, filled, Answer as EventAnswer}
 
 -- the memories of the events hold these answers
 pub record Answered (o : Filled) (times : List ℤ) (kinds steps : List ℕ) : Type 0 where

@@ -1,7 +1,7 @@
 -- How a merge ends: what is settled of what fits is the merge, for each ending. Assumes nothing.
 use Rattle.std.proofs.Math.Path.{◌≡◌, refl, sym, ap, subst}
 use Rattle.std.proofs.Common.{◌∙◌, arith}
-use Rattle.std.specs.Prelude.{Bool, ℕ, ◌-◌, ◌≤◌, ◌<◌, eqb, ℤ, pos, length, replicate}
+use Rattle.std.specs.Prelude.{Bool, ℕ, ◌-◌, ◌≤◌, ◌<◌, eqb, ℤ, pos, length, replicate, None, Some}
 use Rattle.std.proofs.Math.Bool.{true, false}
 use mathlib.Core.List.{List, map}
 use Rattle.std.proofs.Math.ListN.{take}
@@ -11,19 +11,17 @@ use Rattle.reader.specs.Reader.{table_of, lookups_of}
 use Rattle.meant.specs.Meant.{timeline_of}
 use Rattle.clocks.specs.Answers.{Room as ClocksRoom, Filled, filled}
 use Rattle.graphs.specs.Graphs.{World}
-use Rattle.merged.specs.declared.Trace.TheVariants.{Nothing, On}
-use Rattle.merged.specs.declared.Answer.{Answer}
-use Rattle.merged.specs.declared.Answer.TheVariants.{Refused, Merged}
+use Rattle.merged.specs.Answers.{Answer, Refused, Merged}
 use Rattle.merged.specs.Machines.{machine_count, machines_of}
 use Rattle.merged.specs.Timeline.{trace_of}
-use Rattle.merged.specs.Merged.{Room, Outcome, padded, refused_by, merged}
+use Rattle.merged.specs.declared.Room.{Room}
+use Rattle.merged.specs.Merged.{Outcome, padded, refused_by, merged}
 use Rattle.checks.specs.Table.{facts_by}
 use Rattle.checks.specs.Machines.{machine_table}
 use Rattle.lines.specs.Lines.{clock_by, events_at}
 use Rattle.placed.specs.Placed.{world_in, cells}
 use Rattle.placed.specs.declared.Known.{Known}
-use Rattle.placed.specs.declared.Told.{Told}
-use Rattle.placed.specs.declared.Told.TheVariants.{Refused as ToldRefused, Accepted}
+use Rattle.placed.specs.Told.{Told, Refused as ToldRefused, Accepted}
 use Rattle.known.specs.Known.{fact_table, links_in, told}
 use Rattle.joins.specs.Joined.{Small, roomy_for, world_by, answers_by, accepted_with}
 use Rattle.joins.proofs.Ends.{by_room, accepted_is, machine_small, machines_counted, files_counted, small}
@@ -106,7 +104,7 @@ module _ (s : Text) (b m : List ℕ) (ti : List ℤ) (ki st x : List ℕ) (re : 
   -- the answer
   answer_is : summed k.given ≡ Merged (record { files = h.p.files; machines = machine_count (facts_by t); events = h.p.events.count; trace = trace_of (facts_by t) (timeline_of s (table_of s) (lookups_of s)) })
   unfolding summed trace_of
-  answer_is = λ i. Merged (record { files = files_are h i; machines = machines_are h i; events = events_are h i; trace = pick (eqb ((files_are h ∙ sym (files_counted h.tables h.none)) i) 0) Nothing (On (record { 0 = trace_is h i })) })
+  answer_is = λ i. Merged (record { files = files_are h i; machines = machines_are h i; events = events_are h i; trace = pick (eqb ((files_are h ∙ sym (files_counted h.tables h.none)) i) 0) None (Some (record { 0 = trace_is h i })) })
 
   -- the events' answers
   abbrev wide : ClocksRoom

@@ -14,15 +14,15 @@ use Rattle.graphs.specs.Graphs.{world_of}
 use Rattle.merged.specs.Machines.{machine_count}
 use Rattle.merged.specs.Refusals.{checks, first_of, is_pinned}
 use Rattle.merged.specs.Timeline.{bits_of, trace_by}
-use Rattle.merged.specs.Merged.{Room, padded, refused_by, merged}
+use Rattle.merged.specs.declared.Room.{Room}
+use Rattle.merged.specs.Merged.{padded, refused_by, merged}
 use Rattle.merged.proofs.laws.Lists.{length_map}
 use Rattle.checks.specs.Table.{facts_by}
 use Rattle.checks.specs.Machines.{machine_table}
 use Rattle.lines.specs.Lines.{links_by}
 use Rattle.placed.specs.Placed.{world_in}
 use Rattle.placed.specs.declared.Known.{Known}
-use Rattle.placed.specs.declared.Told.{Told}
-use Rattle.placed.specs.declared.Told.TheVariants.{Refused, Accepted}
+use Rattle.placed.specs.Told.{Told, Refused, Accepted}
 use Rattle.known.specs.Known.{table_in, given_by, fact_table, links_in, given_in, told}
 use Rattle.known.specs.Theorems.{told_by}
 use Rattle.joins.specs.Joined.{Read, Small, world_by}

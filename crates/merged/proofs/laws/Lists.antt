@@ -4,8 +4,7 @@ use Rattle.std.proofs.Common.{ap, ◌∙◌, arith, get_or-append-add}
 use Rattle.std.proofs.Math.ListN.{get_or-append}
 use Rattle.records.specs.declared.Event.{Event}
 use Rattle.graphs.specs.Graphs.{World}
-use Rattle.clocks.specs.declared.Answer.{Answer}
-use Rattle.clocks.specs.Answers.{answer_of, answers_of}
+use Rattle.clocks.specs.Answers.{Answer, answer_of, answers_of}
 use Rattle.merged.specs.Merged.{padded}
 
 pub length_map : {A B : Type 0} (f : A → B) (l : List A) → length (map f l) ≡ length l

@@ -7,8 +7,7 @@ use Rattle.records.specs.Layout as layout
 use Rattle.sheet.specs.Twice.{again}
 use Rattle.sheet.specs.Sheets.{Out, refused, records, table_of, judged, size_wrong, sheet_of, read_of}
 use Rattle.sheet.specs.declared.Table.{Table}
-use Rattle.sheet.specs.declared.Sheet.{Sheet}
-use Rattle.sheet.specs.declared.Sheet.TheVariants.{Refused, Listed}
+use Rattle.sheet.specs.Sheets.{Sheet, Refused, Listed}
 use Rattle.merged.specs.Merged.{once, records_of}
 
 -- what reading gives for records

@@ -5,4 +5,4 @@ use Rattle.narguvesh_c.proofs.counted.Goals as goal
 
 pub returns : goal.returns
 unfolding counts_of
-returns c = rw (c.clock_number-clock.ensures, c.wide-machines.ensures, c.wide-files.ensures) refl
+returns c = rw (c.clock_number.ensures, c.from-machines.ensures, c.from.ensures) refl

@@ -6,15 +6,14 @@ use Rattle.records.specs.Layout.{Record}
 use Rattle.records.specs.Theorems.{refuses}
 use Rattle.sheet.specs.Lists.{sources_of, events_of}
 use Rattle.sheet.specs.Sheets.{refused, records, table_of}
-use Rattle.sheet.specs.declared.Sheet.TheVariants.{Refused as SheetRefused, Listed}
-use Rattle.sheet.specs.declared.Sheet.{Sheet}
+use Rattle.sheet.specs.Sheets.{Sheet, Refused as SheetRefused, Listed}
 use Rattle.sheet.specs.Meaning.{Answers, by_size, by_record, by_twice, by_all}
 use Rattle.sheet.specs.Theorems.{read_answers}
 use Rattle.sheet.specs.Accepted.{Accepted, accepted}
 use Rattle.merged.specs.declared.Summary.{Summary}
-use Rattle.merged.specs.declared.Answer.{Answer}
-use Rattle.merged.specs.declared.Answer.TheVariants.{Refused, Merged}
-use Rattle.merged.specs.Merged.{records_of, Room, Outcome, accepted_by, merged}
+use Rattle.merged.specs.Answers.{Answer, Refused, Merged}
+use Rattle.merged.specs.declared.Room.{Room}
+use Rattle.merged.specs.Merged.{records_of, Outcome, accepted_by, merged}
 use Rattle.merged.proofs.Demands.{Accepts, accepts}
 use Rattle.merged.proofs.laws.Sheets.{told, read_told}
 use Rattle.narguvesh_c.specs.Plain.{events_in}

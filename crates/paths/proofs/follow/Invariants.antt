@@ -1,11 +1,7 @@
 -- `paths::follow` meets its contract. The invariant is `Walked`: what is written, and the steps left from where the walk stands, are the steps from c.
 use Rattle.paths.proofs.Walk.{Walked}
 use Rattle.numbers.specs.Numbers.{clocks}
-use Prim.Native.Nat.{◌-◌}
 use Rattle.paths.proofs.follow.Given as goal
 
 abbrev pub invariant-loop-s : goal.invariant-loop-s
 invariant-loop-s l = Walked l.next l.initial.out clocks l.c l.k l.out l.at l.s
-
-abbrev pub decreases-loop-s : goal.decreases-loop-s
-decreases-loop-s l = l.k - l.s

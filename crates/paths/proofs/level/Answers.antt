@@ -1,79 +1,48 @@
--- `paths::level` meets its contract. The invariant is `Turn` of `proofs/Levels.antt`: of the rest the first d have been looked at; those at k pairs are noted and stand in the queue, and those that stay stand at the front. The mask stays that of the level, since the queue grows behind it. The measure counts the clocks still to be looked at. Assumes nothing.
+-- `paths::level` meets its contract. The invariant is `Turn` of `proofs/Levels.antt`: of the rest the first d have been looked at; those at k pairs are noted and stand in the queue, and those that stay stand at the front. The mask stays that of the level, since the queue grows behind it. Assumes nothing.
+use Prim.Native.Nat.{◌≤◌}
+use lib.ListN.{length, get_or}
+use Rattle.paths.specs.Matrix.{pair_of}
 use native.Mathlib.Omega.{arith}
 use Rattle.paths.proofs.Mask.{marked_kept}
-use Rattle.paths.proofs.Levels.{turn_start, turn_end, turn_few, turn_room, turn_keep, turn_put, kept_room, here_in, here_fits, level_in, end_fits}
+use Rattle.paths.proofs.Span.{below_span, first_span, none_span, marked_span, span_marked}
+use Rattle.paths.proofs.Levels.{turn_start, turn_end, turn_keep, turn_put, level_in, end_fits}
 use Rattle.paths.proofs.level.Goals as goal
+use Rattle.paths.proofs.level.Goals.{in-Some, in-None}
 
 pub mask_of-mask-requires : goal.mask_of-mask-requires
-mask_of-mask-requires c = let t = turn_start c.requires.state c.requires.whole.1 in
-    record { end_le_clocks = end_fits t; by_index = λ i p q. omega (arith, level_in t i p q, c.requires.whole.0.small) }
+mask_of-mask-requires c =
+    let t = turn_start c.requires.state c.requires.whole.1 in
+    below_span c.args.queue.now c.args.from c.args.end (omega (arith, end_fits t, t.room_q)) (λ i p q. omega (arith, level_in t i p q, c.requires.whole.0.small))
 
 pub loop-d-init : goal.loop-d-init
-loop-d-init c = (turn_start c.requires.state c.requires.whole.1, c.mask_of-mask.ensures)
+loop-d-init c =
+    let t = turn_start c.requires.state c.requires.whole.1 in
+    (t, marked_span c.args.queue.now c.args.from c.args.end (omega (arith, end_fits t, t.room_q)) c.mask_of-mask.ensures)
 
-pub offset_bounds-rest-d : goal.offset_bounds-rest-d
-offset_bounds-rest-d c = omega (arith, turn_few c.loop-d.invariant.0 c.loop-d-test.true)
+pub nearer_in-requires-clause-by_index : goal.nearer_in-requires-clause-by_index
+nearer_in-requires-clause-by_index c =
+    let t = c.loop-d.invariant.0 in
+    below_span c.loop-d.queue c.args.from c.args.end (omega (arith, end_fits t, t.room_q)) (level_in t)
 
-pub bounds-rest-d : goal.bounds-rest-d
-bounds-rest-d c = omega (arith, turn_few c.loop-d.invariant.0 c.loop-d-test.true)
-
-pub overflow_add-d : goal.overflow_add-d
-overflow_add-d c = omega (arith, turn_few c.loop-d.invariant.0 c.loop-d-test.true)
-
-pub nearer_in-c-requires : goal.nearer_in-c-requires
-nearer_in-c-requires c = let s = c.loop-d.invariant in record {
-  matrix_len = (c.requires.whole.0.square, c.requires.whole.0.small, here_in s.0 c.loop-d-test.true, end_fits s.0, omega (arith, s.0.some));
-  by_index = level_in s.0;
-  marked = s.1;
-}
-
-pub offset_bounds-dist-e : goal.offset_bounds-dist-e
-offset_bounds-dist-e c = omega (arith, here_fits c.loop-d.invariant.0 c.loop-d-test.true)
-
-pub bounds-dist-e : goal.bounds-dist-e
-bounds-dist-e c = omega (arith, here_fits c.loop-d.invariant.0 c.loop-d-test.true)
-
-pub overflow_cast-next : goal.overflow_cast-next
-overflow_cast-next c = omega (arith, here_fits c.loop-d.invariant.0 c.loop-d-test.true, c.if-c-lt-CLOCKS.true)
-
-pub offset_bounds-next-e : goal.offset_bounds-next-e
-offset_bounds-next-e c = omega (arith, here_fits c.loop-d.invariant.0 c.loop-d-test.true)
-
-pub bounds-next-e : goal.bounds-next-e
-bounds-next-e c = omega (arith, here_fits c.loop-d.invariant.0 c.loop-d-test.true)
-
-pub overflow_cast-queue : goal.overflow_cast-queue
-overflow_cast-queue c = omega (arith, here_fits c.loop-d.invariant.0 c.loop-d-test.true)
-
-pub offset_bounds-queue-tail : goal.offset_bounds-queue-tail
-offset_bounds-queue-tail c = omega (arith, turn_room c.loop-d.invariant.0 c.loop-d-test.true)
-
-pub bounds-queue-tail : goal.bounds-queue-tail
-bounds-queue-tail c = turn_room c.loop-d.invariant.0 c.loop-d-test.true
-
-pub overflow_add-tail : goal.overflow_add-tail
-overflow_add-tail c = omega (arith, turn_room c.loop-d.invariant.0 c.loop-d-test.true)
-
-pub loop-d-preserved-then-c-lt-CLOCKS : goal.loop-d-preserved-then-c-lt-CLOCKS
-loop-d-preserved-then-c-lt-CLOCKS c = (
-  turn_put c.loop-d.invariant.0 c.loop-d-test.true (c.nearer_in-c.ensures.found c.if-c-lt-CLOCKS.true),
-  marked_kept _ _ c.loop-d.invariant.1 c.loop-d.invariant.0.put.order,
-)
-
-pub overflow_cast-rest : goal.overflow_cast-rest
-overflow_cast-rest c = omega (arith, here_fits c.loop-d.invariant.0 c.loop-d-test.true, turn_few c.loop-d.invariant.0 c.loop-d-test.true)
-
-pub offset_bounds-rest-kept : goal.offset_bounds-rest-kept
-offset_bounds-rest-kept c = omega (arith, kept_room c.loop-d.invariant.0 c.loop-d-test.true)
-
-pub bounds-rest-kept : goal.bounds-rest-kept
-bounds-rest-kept c = kept_room c.loop-d.invariant.0 c.loop-d-test.true
-
-pub overflow_add-kept : goal.overflow_add-kept
-overflow_add-kept c = omega (arith, kept_room c.loop-d.invariant.0 c.loop-d-test.true)
+pub nearer_in-requires-clause-marked : goal.nearer_in-requires-clause-marked
+nearer_in-requires-clause-marked c =
+    let t = c.loop-d.invariant.0 in
+    span_marked c.loop-d.queue c.args.from c.args.end (omega (arith, end_fits t, t.room_q)) c.loop-d.invariant.1
 
 pub loop-d-preserved : goal.loop-d-preserved
-loop-d-preserved c = (turn_keep c.loop-d.invariant.0 c.loop-d-test.true (c.nearer_in-c.ensures.none c.if-c-lt-CLOCKS.false), c.loop-d.invariant.1)
+loop-d-preserved c =
+    let t = c.loop-d.invariant.0 in
+    let room : c.args.end ≤ length c.loop-d.queue = omega (arith, end_fits t, t.room_q) in
+    elim c.match-nearer_in.branch [
+      | in-Some w ↦ rw (w.found-is, w.rest-is, w.queue-is, w.tail-is, w.kept-is, c.from-e.ensures) (
+        turn_put t c.loop-d-test.true (first_span c.loop-d.queue c.args.from c.args.end room (rw c.from-e.ensures at w.in-Some.ensures)),
+        marked_kept _ _ c.loop-d.invariant.1 t.put.order,
+      )
+      | in-None w ↦ rw (w.found-is, w.rest-is, w.queue-is, w.tail-is, w.kept-is, c.from-e.ensures) (
+        turn_keep t c.loop-d-test.true (none_span c.loop-d.queue c.args.from c.args.end room (pair_of c.args.matrix.now c.args.n (get_or c.loop-d.rest c.loop-d.d 0)) (rw c.from-e.ensures at w.in-None.ensures)),
+        c.loop-d.invariant.1,
+      )
+    ]
 
 pub returns : goal.returns
-returns c = turn_end c.loop-d.invariant.0 c.loop-d-test.false
+returns c = turn_end c.loop-d.invariant.0 (omega arith)

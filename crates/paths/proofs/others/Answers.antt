@@ -5,55 +5,36 @@ use native.Mathlib.Omega.{arith}
 use Rattle.paths.specs.Matrix.{held}
 use Rattle.paths.proofs.Rest.{bare_far, other_off, rest_none, rest_skip, rest_goal, rest_put}
 use Rattle.paths.proofs.others.Goals as goal
+use Rattle.paths.proofs.others.Goals.{then-c-target+then-has_pair, else-c-target, else-c-target-via-then-c-target+else-has_pair, else-c-target-via-else-c-target}
 
 pub loop-c-init : goal.loop-c-init
-loop-c-init c = (c.requires.1, omega arith, omega arith, (λ h. absurd (omega arith)), rest_none _ _ _)
-
-pub has_pair-requires : goal.has_pair-requires
-has_pair-requires c = (c.requires.0.square, c.requires.0.small, c.loop-c-test.true)
-
-pub overflow_cast-out : goal.overflow_cast-out
-overflow_cast-out c = omega (arith, c.requires.0.small)
-
-pub offset_bounds-out-count : goal.offset_bounds-out-count
-offset_bounds-out-count c = omega (arith, c.requires.0.small, c.loop-c.invariant.2)
-
-pub bounds-out-count : goal.bounds-out-count
-bounds-out-count c = omega (arith, c.requires.0.small, c.loop-c.invariant.2)
-
-pub overflow_add-count : goal.overflow_add-count
-overflow_add-count c = omega (arith, c.requires.0.small, c.loop-c.invariant.2)
-
-pub loop-c-preserved-then-has_pair : goal.loop-c-preserved-then-has_pair
-loop-c-preserved-then-has_pair c = (
-  rw length-set c.loop-c.invariant.0,
-  omega arith,
-  omega (arith, c.loop-c.invariant.2),
-  (λ h. omega (arith, c.loop-c.invariant.3 (omega (arith, c.if-e-target.true)))),
-  rest_put c.loop-c.invariant.4 (other_off (held c.args.matrix.now c.args.n c.args.target) c.loop-c.c (omega arith) c.if-e-target.true)
-      (omega (arith, c.requires.0.small, c.loop-c.invariant.0, c.loop-c.invariant.2)),
-)
-
-pub loop-c-preserved-else-has_pair : goal.loop-c-preserved-else-has_pair
-loop-c-preserved-else-has_pair c = (
-  c.loop-c.invariant.0,
-  omega arith,
-  omega (arith, c.loop-c.invariant.2),
-  (λ h. omega (arith, c.loop-c.invariant.2)),
-  rest_skip c.loop-c.invariant.4
-      (λ h f. omega (arith, bare_far c.args.matrix.now c.args.n c.args.target c.loop-c.c c.if-e-target.true (c.has_pair.ensures c.if-has_pair.false))),
-)
+loop-c-init c = (c.requires.1, omega arith, (λ h. absurd (omega arith)), rest_none _ _ _)
 
 pub loop-c-preserved : goal.loop-c-preserved
-loop-c-preserved c = (
-  c.loop-c.invariant.0,
-  omega arith,
-  omega (arith, c.loop-c.invariant.2),
-  (λ h. omega (arith, c.loop-c.invariant.2)),
-  rest_goal c.loop-c.invariant.4 c.if-e-target.false c.requires.0.goal (omega arith),
-)
+loop-c-preserved c =
+    let s = c.loop-c.invariant in
+    let m = c.args.matrix.now in
+    let n = c.args.n in
+    let t = c.args.target in
+    elim c.if-c-target.branch [
+      | then-c-target+then-has_pair w ↦ rw (w.out-is, w.count-is) (
+        rw length-set s.0,
+        omega arith,
+        (λ h. omega (arith, s.2 (omega (arith, w.if-c-target.true)))),
+        rest_put s.3 (other_off (held m n t) c.loop-c.c (omega arith) w.if-c-target.true) (omega (arith, c.requires.0.small, s.0, s.1)),
+      )
+      | else-c-target w ↦ rw (w.out-is, w.count-is) (
+        s.0,
+        omega arith,
+        (λ h. omega arith),
+        elim w.else-c-target.branch [
+          | else-c-target-via-then-c-target+else-has_pair v ↦ rest_skip s.3 (λ h f. omega (arith, bare_far m n t c.loop-c.c v.if-c-target.true (v.has_pair.ensures v.if-has_pair.false)))
+          | else-c-target-via-else-c-target v ↦ rest_goal s.3 v.if-c-target.false c.requires.0.goal (omega arith)
+        ],
+      )
+    ]
 
 pub returns : goal.returns
-returns c =
-    let e : c.loop-c.c ≡ c.args.n = omega (arith, c.loop-c.invariant.1, c.loop-c-test.false) in
-    (omega (arith, c.loop-c.invariant.3 (omega (arith, c.requires.0.goal))), c.loop-c.invariant.0, rw e at c.loop-c.invariant.4)
+returns c = let s = c.loop-c.invariant in
+    let e : c.loop-c.c ≡ c.args.n = omega arith in
+    (omega (arith, s.2 (omega (arith, c.requires.0.goal))), s.0, rw e at s.3)

@@ -18,11 +18,11 @@ returns-then-not-is_graph c = table_empty _ _ _ (sym c.is_graph.ensures ∙ c.if
 pub others-left-requires : goal.others-left-requires
 others-left-requires c = let w = graph_whole _ _ _ (sym c.is_graph.ensures ∙ c.if-not-is_graph.false) in (w, length-replicate {A = ℕ} clocks 0)
 
-pub offset_bounds-dist-target : goal.offset_bounds-dist-target
-offset_bounds-dist-target c = let w = graph_whole _ _ _ (sym c.is_graph.ensures ∙ c.if-not-is_graph.false) in omega arith
+pub offset_bounds-found-target : goal.offset_bounds-found-target
+offset_bounds-found-target c = let w = graph_whole _ _ _ (sym c.is_graph.ensures ∙ c.if-not-is_graph.false) in omega arith
 
-pub bounds-dist-target : goal.bounds-dist-target
-bounds-dist-target c = let w = graph_whole _ _ _ (sym c.is_graph.ensures ∙ c.if-not-is_graph.false) in omega arith
+pub bounds-found-target : goal.bounds-found-target
+bounds-found-target c = let w = graph_whole _ _ _ (sym c.is_graph.ensures ∙ c.if-not-is_graph.false) in omega arith
 
 pub overflow_cast-queue : goal.overflow_cast-queue
 overflow_cast-queue c = let w = graph_whole _ _ _ (sym c.is_graph.ensures ∙ c.if-not-is_graph.false) in omega arith

@@ -7,7 +7,7 @@ use Rattle.paths.specs.Matrix.{held}
 use Rattle.paths.proofs.search.Given as goal
 
 abbrev pub invariant-loop-from : goal.invariant-loop-from
-invariant-loop-from l = State (held l.matrix l.n l.target) clocks l.dist l.next l.rest l.left l.queue l.from l.end l.k × Whole l.matrix l.n l.target
+invariant-loop-from l = State (held l.matrix l.n l.target) clocks l.found.dist l.found.next l.rest l.left l.queue l.from l.end l.k × Whole l.matrix l.n l.target
 
 abbrev pub decreases-loop-from : goal.decreases-loop-from
 decreases-loop-from l = l.n - l.from

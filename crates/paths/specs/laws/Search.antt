@@ -25,8 +25,8 @@ pub record First (p : ℕ → Bool) (xs : List ℕ) (a b r : ℕ) : Type 0 where
   pub before : (i : ℕ) → a ≤ i → i < at → p (get_or xs i 0) ≡ false
 
 -- none of these has p
-abbrev pub None : (ℕ → Bool) → List ℕ → ℕ → ℕ → Type 0
-None p xs a b = (i : ℕ) → a ≤ i → i < b → p (get_or xs i 0) ≡ false
+abbrev pub NoneOf : (ℕ → Bool) → List ℕ → ℕ → ℕ → Type 0
+NoneOf p xs a b = (i : ℕ) → a ≤ i → i < b → p (get_or xs i 0) ≡ false
 
 -- the byte of each of these is not 0 in bs
 pub record Marked (bs xs : List ℕ) (a b : ℕ) : Type 0 where

@@ -1,11 +1,21 @@
 -- `after_end` is its definition: the bits to the byte's end are fewer than 8, so that they are taken as one field. Assumes nothing.
-use Rattle.records.specs.Faults.{after_end}
+use Rattle.std.proofs.Common.{◌≡◌, ap, ◌∙◌, ℕ, arith, lt-ltb, le-ltb}
+use Rattle.bits.specs.Bits.{number}
 use Rattle.bits.specs.laws.Fields.{take_in}
-use Prim.Native.Nat.{◌-◌, ◌%◌}
-use native.Mathlib.Omega.{arith}
-use mathlib.Core.Path.{◌∙◌}
+use Rattle.bits.specs.declared.Taken.{Taken}
+use Rattle.records.specs.Faults.{to_byte_end, after_end}
 use Rattle.records.proofs.after_end.Goals as goal
 
-pub returns : goal.returns
+pub returns-then-rest-gt0 : goal.returns-then-rest-gt0
 unfolding after_end
-returns c = rw (c.either.ensures, c.take-t.ensures ∙ take_in c.args.s.now c.args.e ((8 - c.args.e % 8) % 8) (omega arith) (omega arith))
+returns-then-rest-gt0 c =
+    let a = c.args in
+    let v : c.take-rest.result.value ≡ number a.s.now a.e (to_byte_end a.e) = ap (λ (t : Taken ℕ). t.value) (c.take-rest.ensures ∙ take_in a.s.now a.e (to_byte_end a.e) (omega arith) (omega arith)) in
+    rw (← v, lt-ltb _ _ c.if-rest-gt0.true)
+
+pub returns-else-rest-gt0 : goal.returns-else-rest-gt0
+unfolding after_end
+returns-else-rest-gt0 c =
+    let a = c.args in
+    let v : c.take-rest.result.value ≡ number a.s.now a.e (to_byte_end a.e) = ap (λ (t : Taken ℕ). t.value) (c.take-rest.ensures ∙ take_in a.s.now a.e (to_byte_end a.e) (omega arith) (omega arith)) in
+    rw (← v, le-ltb _ _ c.if-rest-gt0.false)

@@ -11,7 +11,7 @@ use Rattle.records.proofs.label_at.Goals as goal
 
 pub returns-then-at-ge-FAR : goal.returns-then-at-ge-FAR
 unfolding event_at pick
-returns-then-at-ge-FAR c = let h = le-ltb c.args.at 0x1000000000 c.if-at-ge-FAR.true in (simp h, simp h)
+returns-then-at-ge-FAR c = let h = le-ltb c.args.at 0x1000000000 c.if-at-ge-FAR.true in (simp h c.default.ensures.0, simp h c.default.ensures.1)
 
 pub overflow_cast-result : goal.overflow_cast-result
 overflow_cast-result c = omega (arith, field_lt c.args.s.now c.take-kind.result.next.at 5 c.take-source_field.ensures)

@@ -13,7 +13,7 @@ use Rattle.records.proofs.snapshot_at.Goals as goal
 
 pub returns-then-at-ge-FAR : goal.returns-then-at-ge-FAR
 unfolding snapshot_at pick
-returns-then-at-ge-FAR c = simp (le-ltb c.args.at 0x1000000000 c.if-at-ge-FAR.true)
+returns-then-at-ge-FAR c = simp (le-ltb c.args.at 0x1000000000 c.if-at-ge-FAR.true) (λ i. record { source = c.default.ensures.0 i; clock = c.default.ensures.1.0 i; reading = c.default.ensures.1.1.0 i; clock2 = c.default.ensures.1.1.1.0 i; reading2 = c.default.ensures.1.1.1.1 i })
 
 pub overflow_cast-result : goal.overflow_cast-result
 overflow_cast-result c = omega (arith, field_lt c.args.s.now c.take-kind.result.next.at 5 c.take-source.ensures)
@@ -26,4 +26,4 @@ overflow_cast-result-3 c = omega (arith, field_lt c.args.s.now c.take-reading.re
 
 pub returns : goal.returns
 unfolding snapshot_at pick
-returns c = let h : c.args.at < 0x1000000000 = omega arith in let f0 : SFits w64 c.of_pattern.result = record { sfits = c.of_pattern.type_inv } in let f1 : SFits w64 c.of_pattern-2.result = record { sfits = c.of_pattern-2.type_inv } in rw (lt-ltb c.args.at 0x1000000000 h, to_z-of_z f0, to_z-of_z f1, c.of_pattern-2.ensures, c.of_pattern.ensures, c.take-reading2.ensures, c.take-clock2.ensures, c.take-reading.ensures, c.take-clock.ensures, c.take-source.ensures, c.take-kind.ensures, take_in c.args.s.now c.args.at 3 (omega arith) (omega arith), take_in c.args.s.now (c.args.at + 3) 5 (omega arith) (omega arith), take_in c.args.s.now (c.args.at + 3 + 5) 3 (omega arith) (omega arith), take_in c.args.s.now (c.args.at + 3 + 5 + 3) 64 (omega arith) (omega arith), take_in c.args.s.now (c.args.at + 3 + 5 + 3 + 64) 3 (omega arith) (omega arith), take_in c.args.s.now (c.args.at + 3 + 5 + 3 + 64 + 3) 64 (omega arith) (omega arith))
+returns c = let h : c.args.at < 0x1000000000 = omega arith in let f0 : SFits w64 c.cast_signed.result = record { sfits = c.cast_signed.type_inv } in let f1 : SFits w64 c.cast_signed-2.result = record { sfits = c.cast_signed-2.type_inv } in rw (lt-ltb c.args.at 0x1000000000 h, to_z-of_z f0, to_z-of_z f1, c.cast_signed-2.ensures, c.cast_signed.ensures, c.take-reading2.ensures, c.take-clock2.ensures, c.take-reading.ensures, c.take-clock.ensures, c.take-source.ensures, c.take-kind.ensures, take_in c.args.s.now c.args.at 3 (omega arith) (omega arith), take_in c.args.s.now (c.args.at + 3) 5 (omega arith) (omega arith), take_in c.args.s.now (c.args.at + 3 + 5) 3 (omega arith) (omega arith), take_in c.args.s.now (c.args.at + 3 + 5 + 3) 64 (omega arith) (omega arith), take_in c.args.s.now (c.args.at + 3 + 5 + 3 + 64) 3 (omega arith) (omega arith), take_in c.args.s.now (c.args.at + 3 + 5 + 3 + 64 + 3) 64 (omega arith) (omega arith))

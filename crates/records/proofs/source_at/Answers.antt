@@ -10,7 +10,7 @@ use Rattle.records.proofs.source_at.Goals as goal
 
 pub returns-then-at-ge-FAR : goal.returns-then-at-ge-FAR
 unfolding source_at pick
-returns-then-at-ge-FAR c = simp (le-ltb c.args.at 0x1000000000 c.if-at-ge-FAR.true)
+returns-then-at-ge-FAR c = simp (le-ltb c.args.at 0x1000000000 c.if-at-ge-FAR.true) (λ i. record { file = record { 0 = c.default.ensures.0 i }; id = c.default.ensures.1 i })
 
 pub overflow_cast-result : goal.overflow_cast-result
 overflow_cast-result c = omega (arith, field_lt c.args.s.now c.take-kind.result.next.at 5 c.take-file.ensures)

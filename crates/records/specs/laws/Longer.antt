@@ -8,11 +8,10 @@ use Rattle.std.proofs.Math.ListN.{length, length-append}
 use Rattle.bits.specs.Bits.{number}
 use Rattle.bits.specs.laws.Slices.{number_longer, number_drop}
 use Rattle.records.specs.Layout.{Record, source, snapshot, event, bytes_at, head_here, file_here, source_here, snapshot_here, event_here, pick, record_of, record_at, size_of}
-use Rattle.records.specs.Faults.{cut, fault_of, next, step_for, step_at}
+use Rattle.records.specs.Faults.{cut, fault_of, next, step_for, step_at, Next}
 use Rattle.records.specs.laws.Fields.{length_bytes}
 use Rattle.records.specs.laws.Steps.{Seen, a_file, a_source, a_snapshot, an_event, Passes, step_apart}
 use Rattle.records.specs.declared.State.{State}
-use Rattle.records.specs.declared.Step.TheVariants.{Next}
 
 module _ (s t : List ℕ) where
   same : (i w : ℕ) → i + w ≤ 8 * length s → number (s ++ t) i w ≡ number s i w

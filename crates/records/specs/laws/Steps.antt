@@ -3,11 +3,9 @@ use Rattle.std.specs.Prelude.{◌≡◌, refl, Bool, true, false, List, ℕ, ◌
 use Rattle.std.proofs.Common.{sym, ap, ◌∙◌, subst, arith, add-one, pow-suc, eqb-true, ltb-false, leb-false}
 use Rattle.std.proofs.lemmas.Bool.{eqb-false}
 use Rattle.records.specs.Layout.{Record, file, source, snapshot, event, ending, unknown, head_here, file_here, source_here, snapshot_here, event_here, pick, record_of, record_at, size_of}
-use Rattle.records.specs.Faults.{cut, low, wrong, after, full, fault_of, fault, bit, next, passed, step_for, step_at}
+use Rattle.records.specs.Faults.{cut, low, wrong, after, full, fault_of, fault, bit, next, passed, step_for, step_at, Step, Next, End, Bad}
 use Rattle.records.specs.States.{Fit}
 use Rattle.records.specs.declared.State.{State}
-use Rattle.records.specs.declared.Step.{Step}
-use Rattle.records.specs.declared.Step.TheVariants.{Next, End, Bad}
 
 -- a record that stands at a position
 pub data Seen (s : List ℕ) (at : ℕ) : Record → Type 0 where

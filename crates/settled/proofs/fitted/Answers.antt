@@ -1,15 +1,28 @@
--- `settled::fitted` meets its contract: a case for each kind of what was told, and the two tests are the definition's. Assumes nothing.
+-- `settled::fitted` meets its contract: what is known is tested. Assumes nothing.
+use mathlib.Core.Path.{◌≡◌, sym, ap, ◌∙◌}
+use Rattle.std.specs.Prelude.{Result, Ok, Err, IsErrAnd}
+use Rattle.refusals.specs.declared.Refusal.{Refusal}
+use Rattle.placed.specs.declared.Known.{Known}
+use Rattle.placed.specs.Told.{as_told}
 use Rattle.settled.specs.Settled.{fitted_in}
 use Rattle.settled.specs.laws.Fits.{fitted_short, fitted_long}
-use mathlib.Core.Path.{sym, ap}
 use Rattle.settled.proofs.fitted.Goals as goal
 
-pub returns-then-not-roomy : goal.returns-then-not-roomy
-returns-then-not-roomy c = fitted_short (record { machines = c.args.machines; times = c.args.times; kinds = c.args.kinds; steps = c.args.steps; matrix = c.args.matrix; readings = c.args.readings; clocks = c.args.clocks }) c.in-Accepted.is c.outputs_fit-fit.ensures c.is_roomy-roomy.ensures c.if-not-roomy.true
+-- what `?` hands on is the error itself
+err_is : {P : Refusal → Type 0} (o : Result Known Refusal) {r : Refusal} → ((x : Refusal) → P x → x ≡ r) → IsErrAnd o P → o ≡ Err r
+err_is (Ok k) f h = absurd h
+err_is (Err x) f h = ap Err (f x h)
 
-pub returns-in-Refused : goal.returns-in-Refused
+pub returns-in_err-known : goal.returns-in_err-known
 unfolding fitted_in
-returns-in-Refused c = sym (ap (fitted_in (record { machines = c.args.machines; times = c.args.times; kinds = c.args.kinds; steps = c.args.steps; matrix = c.args.matrix; readings = c.args.readings; clocks = c.args.clocks })) c.in-Refused.is)
+returns-in_err-known c = ap as_told (err_is c.from_residual.result (λ x q. cc) c.from_residual.ensures.1) ∙ sym (ap (λ (o : Result Known Refusal). fitted_in c.args.room (as_told o)) c.in_err-known.was)
 
-pub returns-else-not-roomy : goal.returns-else-not-roomy
-returns-else-not-roomy c = fitted_long (record { machines = c.args.machines; times = c.args.times; kinds = c.args.kinds; steps = c.args.steps; matrix = c.args.matrix; readings = c.args.readings; clocks = c.args.clocks }) c.in-Accepted.is c.outputs_fit-fit.ensures c.is_roomy-roomy.ensures c.if-not-roomy.false
+pub returns-then-not-is_roomy : goal.returns-then-not-is_roomy
+returns-then-not-is_roomy c =
+    fitted_short c.args.room _ c.is_roomy.ensures c.if-not-is_roomy.true
+    ∙ sym (ap (λ (o : Result Known Refusal). fitted_in c.args.room (as_told o)) c.in_ok-known.was)
+
+pub returns : goal.returns
+returns c =
+    fitted_long c.args.room _ c.is_roomy.ensures c.if-not-is_roomy.false
+    ∙ sym (ap (λ (o : Result Known Refusal). fitted_in c.args.room (as_told o)) c.in_ok-known.was)

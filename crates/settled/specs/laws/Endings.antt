@@ -2,12 +2,11 @@
 use Rattle.std.specs.Prelude.{◌≡◌, List, ℕ, ℤ, pos, replicate}
 use Rattle.std.proofs.Math.Path.{sym, ap}
 use Rattle.std.proofs.Common.{◌∙◌}
-use Rattle.merged.specs.declared.Answer.{Answer}
-use Rattle.merged.specs.declared.Answer.TheVariants.{Refused as AnswerRefused}
-use Rattle.merged.specs.Merged.{Room, Outcome, padded, refused_by}
+use Rattle.merged.specs.Answers.{Answer, Refused as AnswerRefused}
+use Rattle.merged.specs.declared.Room.{Room}
+use Rattle.merged.specs.Merged.{Outcome, padded, refused_by}
 use Rattle.placed.specs.declared.Known.{Known}
-use Rattle.placed.specs.declared.Told.{Told}
-use Rattle.placed.specs.declared.Told.TheVariants.{Refused, Accepted}
+use Rattle.placed.specs.Told.{Told, Refused, Accepted}
 use Rattle.answered.specs.Answered.{machines_in, summed}
 use Rattle.settled.specs.Settled.{events_by, settled_in}
 

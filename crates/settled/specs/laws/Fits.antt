@@ -5,10 +5,9 @@ use Rattle.std.proofs.Common.{◌∙◌, arith, leb-true}
 use Rattle.std.proofs.Math.Dec.{leb}
 use Rattle.text.specs.Reading.{pick}
 use Rattle.text.specs.laws.Readers.{pick_true, pick_false}
-use Rattle.merged.specs.Merged.{Room}
+use Rattle.merged.specs.declared.Room.{Room}
 use Rattle.placed.specs.declared.Known.{Known}
-use Rattle.placed.specs.declared.Told.{Told}
-use Rattle.placed.specs.declared.Told.TheVariants.{Refused, Accepted}
+use Rattle.placed.specs.Told.{Told, Refused, Accepted}
 use Rattle.joins.specs.Joined.{roomy_for}
 use Rattle.settled.specs.Settled.{fitted_in}
 
@@ -45,18 +44,23 @@ long_is sources events room e =
       clocks = leb-true _ _ b;
     }
 
--- the test in two steps: the output memories, then the work memories
-module _ (room : Room) {o : Told} {k : Known} (e : o ≡ Accepted k) {fit r : Bool}
-    (ef : fit ≡ (leb k.sources room.machines && leb k.given.events room.times && leb k.given.events room.kinds && leb k.given.events room.steps))
-    (er : r ≡ (fit && leb 50176 room.matrix && leb k.given.events room.readings && leb k.given.events room.clocks)) where
-  tested : r ≡ roomy_for k.sources k.given.events room
-  unfolding roomy_for
-  tested = er ∙ ap (λ (f : Bool). f && leb 50176 room.matrix && leb k.given.events room.readings && leb k.given.events room.clocks) ef
-
-  pub fitted_short : r ≡ false → Refused 38 ≡ fitted_in room o
+-- what was told, by the test
+module _ (room : Room) (k : Known) {r : Bool} (e : r ≡ roomy_for k.sources k.given.events room) where
+  pub fitted_short : r ≡ false → Refused 38 ≡ fitted_in room (Accepted k)
   unfolding fitted_in
-  fitted_short f = sym (ap (fitted_in room) e ∙ pick_false _ _ (sym tested ∙ f))
+  fitted_short f = sym (pick_false _ _ (sym e ∙ f))
 
-  pub fitted_long : r ≡ true → Accepted k ≡ fitted_in room o
+  pub fitted_long : r ≡ true → Accepted k ≡ fitted_in room (Accepted k)
   unfolding fitted_in
-  fitted_long f = sym (ap (fitted_in room) e ∙ pick_true _ _ (sym tested ∙ f))
+  fitted_long f = sym (pick_true _ _ (sym e ∙ f))
+
+-- seven tests, from the last on and from the first on
+pub seven : (a b c d e f g : Bool) → (a && (b && (c && (d && (e && (f && (g && true))))))) ≡ (a && b && c && d && e && f && g)
+seven false b c d e f g = refl
+seven true false c d e f g = refl
+seven true true false d e f g = refl
+seven true true true false e f g = refl
+seven true true true true false f g = refl
+seven true true true true true false g = refl
+seven true true true true true true true = refl
+seven true true true true true true false = refl

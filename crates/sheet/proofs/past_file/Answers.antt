@@ -4,4 +4,4 @@ use native.Mathlib.Omega.{arith}
 use Rattle.sheet.proofs.past_file.Goals as goal
 
 pub returns : goal.returns
-returns c = (size_is c.args.s.now c.head_at-h.ensures c.wide.ensures (omega arith), omega arith)
+returns c = (size_is c.args.s.now c.head_at-h.ensures c.from.ensures (omega arith), omega arith)

@@ -11,13 +11,29 @@ pub loop-j-init : goal.loop-j-init
 loop-j-init c = refl
 
 pub paths_match-requires : goal.paths_match-requires
-paths_match-requires c = (place_low c.args.s.now (place_is c.args.s.now c.requires.2 c.requires.1 c.requires.0 c.place-a.ensures) (omega arith), place_low c.args.s.now (place_is c.args.s.now c.requires.2 c.requires.1 c.loop-j-test.true c.place.ensures) (omega arith), print_at c.args.s.now c.requires.3 c.requires.0 (place_is c.args.s.now c.requires.2 c.requires.1 c.requires.0 c.place-a.ensures), print_at c.args.s.now c.requires.3 c.loop-j-test.true (place_is c.args.s.now c.requires.2 c.requires.1 c.loop-j-test.true c.place.ensures))
+paths_match-requires c =
+    let a = c.args in
+    let r = c.requires in
+    let p = place_is a.s.now r.2 r.1 r.0 in
+    let q = place_is a.s.now {k = c.loop-j.j} r.2 r.1 (omega arith) in
+    (place_low a.s.now p (omega arith), place_low a.s.now q (omega arith), print_at a.s.now r.3 r.0 p, print_at a.s.now r.3 (omega arith) q)
 
 pub returns-then-paths_match : goal.returns-then-paths_match
-returns-then-paths_match c = among_hit same_bytes _ (paths_on c.args.s.now c.args.n c.loop-j.j c.loop-j-test.true) (matched c.args.s.now c.args.i c.loop-j.j (place_is c.args.s.now c.requires.2 c.requires.1 c.requires.0 c.place-a.ensures) (place_is c.args.s.now c.requires.2 c.requires.1 c.loop-j-test.true c.place.ensures) c.paths_match.ensures) c.if-paths_match.true ∙ c.loop-j.invariant
+returns-then-paths_match c =
+    let a = c.args in
+    let r = c.requires in
+    among_hit same_bytes _ (paths_on a.s.now a.n c.loop-j.j (omega arith))
+    (matched a.s.now a.i c.loop-j.j (place_is a.s.now r.2 r.1 r.0) (place_is a.s.now {k = c.loop-j.j} r.2 r.1 (omega arith)) c.paths_match.ensures) c.if-paths_match.true
+    ∙ c.loop-j.invariant
 
 pub loop-j-preserved : goal.loop-j-preserved
-loop-j-preserved c = sym (among_miss same_bytes _ (paths_on c.args.s.now c.args.n c.loop-j.j c.loop-j-test.true) (matched c.args.s.now c.args.i c.loop-j.j (place_is c.args.s.now c.requires.2 c.requires.1 c.requires.0 c.place-a.ensures) (place_is c.args.s.now c.requires.2 c.requires.1 c.loop-j-test.true c.place.ensures) c.paths_match.ensures) c.if-paths_match.false) ∙ c.loop-j.invariant
+loop-j-preserved c =
+    let a = c.args in
+    let r = c.requires in
+    sym
+    (among_miss same_bytes _ (paths_on a.s.now a.n c.loop-j.j (omega arith))
+    (matched a.s.now a.i c.loop-j.j (place_is a.s.now r.2 r.1 r.0) (place_is a.s.now {k = c.loop-j.j} r.2 r.1 (omega arith)) c.paths_match.ensures) c.if-paths_match.false)
+    ∙ c.loop-j.invariant
 
 pub returns : goal.returns
-returns c = among_none same_bytes _ (paths_past c.args.s.now c.args.n c.loop-j.j c.loop-j-test.false) ∙ c.loop-j.invariant
+returns c = among_none same_bytes _ (paths_past c.args.s.now c.args.n c.loop-j.j (omega arith)) ∙ c.loop-j.invariant

@@ -9,6 +9,3 @@ use Rattle.sheet.proofs.path_again.Given as goal
 
 abbrev pub invariant-loop-j : goal.invariant-loop-j
 invariant-loop-j l = among same_bytes (path_here l.s (place_of l.s 0 l.i)) (paths_from l.s (place_of l.s 0 l.j) (l.n - l.j)) ≡ among same_bytes (path_here l.s (place_of l.s 0 l.i)) (paths_from l.s (place_of l.s 0 (l.i + 1)) (l.n - (l.i + 1)))
-
-abbrev pub decreases-loop-j : goal.decreases-loop-j
-decreases-loop-j l = l.n - l.j

@@ -7,6 +7,3 @@ use Rattle.sheet.proofs.paths_twice.Given as goal
 
 abbrev pub invariant-loop-file : goal.invariant-loop-file
 invariant-loop-file l = repeats same_bytes (paths_from l.s (place_of l.s 0 l.file) (l.n - l.file)) ≡ repeats same_bytes (paths_from l.s 0 l.n)
-
-abbrev pub decreases-loop-file : goal.decreases-loop-file
-decreases-loop-file l = l.n - l.file

@@ -1,17 +1,17 @@
 -- `same_bytes` compares the bytes at two positions. The invariant says that what is left of both is equal exactly if all is. Assumes nothing.
-use Rattle.sheet.proofs.Again.{differ, agree, none_left}
+use Rattle.sheet.proofs.Again.{differ, agree, none_left, all_left}
 use native.Mathlib.Omega.{arith}
-use mathlib.Core.Path.{◌≡◌, refl, sym, ◌∙◌}
+use mathlib.Core.Path.{◌∙◌}
 use Rattle.sheet.proofs.same_bytes.Goals as goal
 
-pub loop-left-init : goal.loop-left-init
-loop-left-init c = (c.requires.0, c.requires.1, refl)
+pub loop-k-init : goal.loop-k-init
+loop-k-init c = all_left c.args.s.now c.args.a c.args.b c.args.n
 
-pub returns-then-u-v : goal.returns-then-u-v
-returns-then-u-v c = differ c.args.s.now c.loop-left.p c.loop-left.q c.take-x.ensures c.take-y.ensures c.loop-left.invariant.0 c.loop-left.invariant.1 c.loop-left-test.true c.if-u-v.true ∙ c.loop-left.invariant.2
+pub returns-then-x-y : goal.returns-then-x-y
+returns-then-x-y c = differ c.args.s.now c.args.a c.args.b c.args.n c.loop-k.k c.take-x.ensures c.take-y.ensures (omega arith) (omega arith) (omega arith) c.if-x-y.true ∙ c.loop-k.invariant
 
-pub loop-left-preserved : goal.loop-left-preserved
-loop-left-preserved c = (omega arith, omega arith, sym (agree c.args.s.now c.loop-left.p c.loop-left.q c.take-x.ensures c.take-y.ensures c.loop-left.invariant.0 c.loop-left.invariant.1 c.loop-left-test.true c.if-u-v.false) ∙ c.loop-left.invariant.2)
+pub loop-k-preserved : goal.loop-k-preserved
+loop-k-preserved c = agree c.args.s.now c.args.a c.args.b c.args.n c.loop-k.k c.take-x.ensures c.take-y.ensures (omega arith) (omega arith) (omega arith) c.if-x-y.false ∙ c.loop-k.invariant
 
 pub returns : goal.returns
-returns c = let z : c.loop-left.left ≡ 0 = omega arith in none_left c.args.s.now c.loop-left.p c.loop-left.q z ∙ c.loop-left.invariant.2
+returns c = none_left c.args.s.now c.args.a c.args.b c.args.n c.loop-k.k (omega arith) ∙ c.loop-k.invariant

@@ -4,8 +4,8 @@ use lib.ListN.{length}
 use Prim.Native.Nat.{◌-◌, ◌*◌}
 use Rattle.sheet.proofs.scan.Given as goal
 
-abbrev pub invariant-loop-n : goal.invariant-loop-n
-invariant-loop-n l = Left l.s l.st
+abbrev pub invariant-loop-next : goal.invariant-loop-next
+invariant-loop-next l = Left l.s l.st
 
-abbrev pub decreases-loop-n : goal.decreases-loop-n
-decreases-loop-n l = 8 * length l.s - l.st.at
+abbrev pub decreases-loop-next : goal.decreases-loop-next
+decreases-loop-next l = 8 * length l.s - l.st.at

@@ -1,10 +1,6 @@
 -- `source_keys` holds the keys of the first sources: that is the invariant, and `Keyed` says it. Assumes nothing.
 use Rattle.sheet.specs.laws.Keys.{Keyed}
-use Prim.Native.Nat.{◌-◌, ◌≤◌}
 use Rattle.sheet.proofs.source_keys.Given as goal
 
 abbrev pub invariant-loop-source : goal.invariant-loop-source
-invariant-loop-source l = (l.source ≤ l.n) × Keyed l.s l.from l.keys l.source
-
-abbrev pub decreases-loop-source : goal.decreases-loop-source
-decreases-loop-source l = l.n - l.source
+invariant-loop-source l = Keyed l.s l.from l.keys l.source

@@ -6,8 +6,5 @@ use Prim.Native.Nat.{◌+◌, ◌-◌, ◌*◌}
 use mathlib.Core.Path.{◌≡◌}
 use Rattle.sheet.proofs.sources_twice.Given as goal
 
-abbrev pub invariant-loop-source : goal.invariant-loop-source
-invariant-loop-source l = repeats same_source (sources_from l.s (l.from + 40 * l.source) (l.n - l.source)) ≡ repeats same_source (sources_from l.s l.from l.n)
-
-abbrev pub decreases-loop-source : goal.decreases-loop-source
-decreases-loop-source l = l.n - l.source
+abbrev pub invariant-loop-i : goal.invariant-loop-i
+invariant-loop-i l = repeats same_source (sources_from l.s (l.from + 40 * l.i) (l.n - l.i)) ≡ repeats same_source (sources_from l.s l.from l.n)

@@ -9,19 +9,15 @@ use Rattle.std.proofs.Math.Dec.{eqb, ltb}
 use Rattle.std.proofs.Math.ListN.{length}
 use Rattle.std.proofs.lemmas.Bool.{eqb-false}
 use Rattle.records.specs.Layout.{Record, record_at, pick}
-use Rattle.records.specs.Faults.{step_at}
+use Rattle.records.specs.Faults.{step_at, Step, Next, End, Bad}
 use Rattle.records.specs.States.{start, Fit}
 use Rattle.records.specs.laws.States.{fit_start}
 use Rattle.records.specs.laws.Steps.{fit_moves}
 use Rattle.records.specs.declared.State.{State}
-use Rattle.records.specs.declared.Step.{Step}
-use Rattle.records.specs.declared.Step.TheVariants.{Next, End, Bad}
 use Rattle.sheet.specs.Twice.{again}
-use Rattle.sheet.specs.Sheets.{Out, refused, records, before, onward, records_from, sheet_of, table_of, judged, size_wrong, read_of}
+use Rattle.sheet.specs.Sheets.{Out, refused, records, before, onward, records_from, sheet_of, table_of, judged, size_wrong, read_of, Sheet, Refused, Listed}
 use Rattle.sheet.specs.Meaning.{Stands, here, on, Repeated, Sized, Answers, by_size, by_record, by_twice, by_all}
 use Rattle.sheet.specs.laws.Repeats.{no_way, or_split, again_repeated, repeated_again}
-use Rattle.sheet.specs.declared.Sheet.{Sheet}
-use Rattle.sheet.specs.declared.Sheet.TheVariants.{Refused, Listed}
 
 -- what the walk found
 pub data Found (s : List ℕ) (st : State) : Out → Type 0 where

@@ -1,21 +1,29 @@
--- The walk over the records again, for where it ends: the fault, or 0 at the end record, and the state before that record;
--- and the table that follows from that state. Assumes nothing.
-use Rattle.std.specs.Prelude.{List, ℕ, zero, suc, ◌+◌, ◌-◌, ◌*◌, ◌≤◌, length}
-use Rattle.records.specs.Faults.{step_at}
+-- The walk over the records again, for how it ends: at the end record, in which state, or at a fault; and the table that follows from that state. Assumes nothing.
+use Rattle.std.specs.Prelude.{Result, Ok, Err, List, ℕ, zero, suc, ◌+◌, ◌-◌, ◌*◌, ◌≤◌, length}
+use Rattle.refusals.specs.Refusals.{number}
+use Rattle.refusals.specs.declared.Refusal.{Refusal}
+use Rattle.records.specs.Faults.{step_at, Step, Next, End, Bad}
 use Rattle.records.specs.States.{start}
 use Rattle.records.specs.declared.State.{State}
-use Rattle.records.specs.declared.Step.{Step}
-use Rattle.records.specs.declared.Step.TheVariants.{Next, End, Bad}
-use Rattle.sheet.specs.declared.Ended.{Ended}
 use Rattle.sheet.specs.declared.Table.{Table}
+
+-- at the end record, with the state before it; or at a refusal of this number
+pub data Ended : Type 0 where
+  at_end : State → Ended
+  at_fault : ℕ → Ended
+
+-- which of these the code's result is
+abbrev pub told_end : Result State Refusal → Ended
+told_end (Ok st) = at_end st
+told_end (Err r) = at_fault (number r)
 
 abbrev pub end_on : State → (State → Ended) → Step → Ended
 end_on st rest (Next n) = rest n
-end_on st rest End = record { fault = 0; state = st }
-end_on st rest (Bad k) = record { fault = k; state = st }
+end_on st rest End = at_end st
+end_on st rest (Bad k) = at_fault k
 
 unfoldable pub ended_from : ℕ → List ℕ → State → Ended
-ended_from zero s st = record { fault = 26; state = st }
+ended_from zero s st = at_fault 26
 ended_from (suc n) s st = end_on st (λ m. ended_from n s m) (step_at s st)
 
 unfoldable pub ended_of : List ℕ → Ended

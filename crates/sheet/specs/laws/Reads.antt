@@ -2,17 +2,14 @@
 use Rattle.std.specs.Prelude.{◌≡◌, refl, List, [], ◌∷◌, ℕ, zero, suc, ◌+◌, ◌*◌, ◌≤◌, ◌<◌, length}
 use Rattle.std.proofs.Common.{sym, ◌∙◌, subst, arith}
 use Rattle.records.specs.Layout.{Record, record_at}
-use Rattle.records.specs.Faults.{next, step_at}
+use Rattle.records.specs.Faults.{next, step_at, Step, Next, End, Bad}
 use Rattle.records.specs.States.{start, Fit, step_of}
 use Rattle.records.specs.laws.States.{fit_start, fit_step}
 use Rattle.records.specs.laws.Steps.{Seen, Passes, step_apart, step_fault, fit_next, fit_moves}
 use Rattle.records.specs.declared.State.{State}
-use Rattle.records.specs.declared.Step.{Step}
-use Rattle.records.specs.declared.Step.TheVariants.{Next, End, Bad}
 use Rattle.sheet.specs.Sheets.{Out, refused, records, before, onward, records_from, sheet_of}
 use Rattle.sheet.specs.Meaning.{Stands, here, on}
-use Rattle.sheet.specs.laws.Ended.{end_on, ended_from, ended_of}
-use Rattle.sheet.specs.declared.Ended.{Ended}
+use Rattle.sheet.specs.laws.Ended.{Ended, at_end, at_fault, end_on, ended_from, ended_of}
 
 -- from st on stand the records rs, each of them passed, and then the state is e
 pub data Reads (s : List ℕ) : State → List Record → State → Type 0 where
@@ -34,13 +31,17 @@ left_start s h = record { fit = fit_start h; turns = 8 * length s; enough = omeg
 pub left_step : {s : List ℕ} {st : State} {x y : Step} → Left s st → x ≡ step_of s st → x ≡ y → step_at s st ≡ y
 left_step l e h = sym (fit_step l.fit) ∙ sym e ∙ h
 
-pub left_end : {s : List ℕ} {st : State} → Left s st → step_at s st ≡ End → record { fault = 0; state = st } ≡ ended_of s
+pub left_end : {s : List ℕ} {st : State} → Left s st → step_at s st ≡ End → at_end st ≡ ended_of s
 unfolding ended_from
 left_end l e = (rw e at l.same)
 
-pub left_bad : {s : List ℕ} {st : State} {k : ℕ} → Left s st → step_at s st ≡ Bad k → record { fault = k; state = st } ≡ ended_of s
+pub left_bad : {s : List ℕ} {st : State} {k : ℕ} → Left s st → step_at s st ≡ Bad k → at_fault k ≡ ended_of s
 unfolding ended_from
 left_bad l e = (rw e at l.same)
+
+-- and it is never at no state of a sheet
+pub left_some : {s : List ℕ} {st : State} → Left s st → step_at s st ≡ Bad 0 → ⊥
+left_some {s} {st} l e = (step_fault s st e).1 refl
 
 walk_next : (s : List ℕ) (st : State) {n : State} (t : ℕ) → step_at s st ≡ Next n → ended_from (suc t) s st ≡ ended_of s → ended_from t s n ≡ ended_of s
 unfolding ended_from
@@ -55,11 +56,11 @@ left_next {s} {st} {n} l e = go e (fit_moves l.fit e) l.turns l.enough l.same
 
 -- ---- both walks, and the relation
 pub data Both (s : List ℕ) (st : State) : Out → Ended → Type 0 where
-  bad : {k : ℕ} {e : State} → (k ≡ 0 → ⊥) → Both s st (refused k) (record { fault = k; state = e })
-  good : {rs : List Record} {e : State} → Reads s st rs e → Both s st (records rs) (record { fault = 0; state = e })
+  bad : {k : ℕ} → Both s st (refused k) (at_fault k)
+  good : {rs : List Record} {e : State} → Reads s st rs e → Both s st (records rs) (at_end e)
 
 extend : {s : List ℕ} {st n : State} {r : Record} {o : Out} {e : Ended} → Seen s st.at r → Passes s st r → next st r ≡ n → Both s n o e → Both s st (before r o) e
-extend v p q (bad z) = bad z
+extend v p q bad = bad
 extend {s} v p q (good {rs} {e} rd) = good (more v p (subst (λ (m : State). Reads s m rs e) (sym q) rd))
 
 by_step : (s : List ℕ) (st : State) (out : State → Out) (end : State → Ended) → ((m : State) → Both s m (out m) (end m)) → (x : Step) → step_at s st ≡ x →
@@ -68,11 +69,11 @@ by_step s st out end ih (Next n) h =
     let q = step_apart s st h in
     extend q.0 q.1 q.2 (ih n)
 by_step s st out end ih End h = good done
-by_step s st out end ih (Bad k) h = bad (step_fault s st h).1
+by_step s st out end ih (Bad k) h = bad
 
 both : (n : ℕ) (s : List ℕ) (st : State) → Both s st (records_from n s st) (ended_from n s st)
 unfolding records_from ended_from
-both zero s st = bad (λ (z : ◌≡◌ {A = ℕ} 26 0). omega arith)
+both zero s st = bad
 both (suc n) s st = by_step s st (λ m. records_from n s m) (λ m. ended_from n s m) (λ m. both n s m) (step_at s st) refl
 
 pub walks : (s : List ℕ) → Both s start (sheet_of s) (ended_of s)

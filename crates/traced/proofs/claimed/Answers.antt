@@ -1,6 +1,5 @@
 -- `traced::claimed` meets its contract. The loop's invariant: the first that claims is the first from number f on. Assumes nothing.
 use mathlib.Core.Path.{refl, sym, ap, ◌∙◌}
-use Prim.Native.Nat.{◌-◌}
 use native.Mathlib.Omega.{arith}
 use Rattle.checks.specs.Table.{file_number}
 use Rattle.traced.specs.laws.Files.{files_few, found_is, goes_on, none_is}

@@ -7,10 +7,10 @@ pub returns-then-t-f-eq0 : goal.returns-then-t-f-eq0
 unfolding file_number
 returns-then-t-f-eq0 c = claims_nothing c.args.t.now c.args.f c.if-t-f-eq0.true
 
-pub returns-then-t-f-eq2 : goal.returns-then-t-f-eq2
+pub returns-then-t-f-eq-PINNED : goal.returns-then-t-f-eq-PINNED
 unfolding file_number
-returns-then-t-f-eq2 c = claims_pinned c.args.t.now c.args.f c.if-t-f-eq0.false c.if-t-f-eq2.true
+returns-then-t-f-eq-PINNED c = claims_pinned c.args.t.now c.args.f c.if-t-f-eq0.false c.if-t-f-eq-PINNED.true
 
 pub returns : goal.returns
 unfolding file_number
-returns c = claims_open c.args.t.now c.args.f c.if-t-f-eq0.false c.if-t-f-eq2.false
+returns c = claims_open c.args.t.now c.args.f c.if-t-f-eq0.false c.if-t-f-eq-PINNED.false

@@ -14,13 +14,13 @@ overflow_mul-bits c = omega (arith, pinned_small c.args.t.now c.loop-k.k c.loop-
 pub overflow_add-bits : goal.overflow_add-bits
 overflow_add-bits c = omega (arith, pinned_small c.args.t.now c.loop-k.k c.loop-k-test.true, c.loop-k.invariant.1.1)
 
-pub loop-k-preserved-then-t-k-eq2 : goal.loop-k-preserved-then-t-k-eq2
+pub loop-k-preserved-then-t-k-eq-PINNED : goal.loop-k-preserved-then-t-k-eq-PINNED
 unfolding file_number
-loop-k-preserved-then-t-k-eq2 c = (omega arith, (omega arith, pinned_set c.args.t.now c.loop-k.k c.loop-k-test.true c.loop-k.invariant.0 c.loop-k.invariant.1.1 c.if-t-k-eq2.true))
+loop-k-preserved-then-t-k-eq-PINNED c = (omega arith, (omega arith, pinned_set c.args.t.now c.loop-k.k c.loop-k-test.true c.loop-k.invariant.0 c.loop-k.invariant.1.1 c.if-t-k-eq-PINNED.true))
 
 pub loop-k-preserved : goal.loop-k-preserved
 unfolding file_number
-loop-k-preserved c = (omega arith, (omega arith, pinned_clear c.args.t.now c.loop-k.k c.loop-k-test.true c.loop-k.invariant.0 c.loop-k.invariant.1.1 c.if-t-k-eq2.false))
+loop-k-preserved c = (omega arith, (omega arith, pinned_clear c.args.t.now c.loop-k.k c.loop-k-test.true c.loop-k.invariant.0 c.loop-k.invariant.1.1 c.if-t-k-eq-PINNED.false))
 
 pub returns : goal.returns
 returns c = c.loop-k.invariant.1.1 ∙ (ap (pinned_from c.args.t.now) (let z : c.loop-k.k ≡ 0 = omega arith in z) ∙ pinned_is c.args.t.now)

@@ -7,6 +7,3 @@ use Rattle.traced.proofs.pinned.Given as goal
 
 abbrev pub invariant-loop-k : goal.invariant-loop-k
 invariant-loop-k l = (l.k ≤ files_in l.t) × ((l.k ≤ 32) × (l.bits ≡ pinned_from l.t l.k))
-
-abbrev pub decreases-loop-k : goal.decreases-loop-k
-decreases-loop-k l = l.k

@@ -1,5 +1,5 @@
 -- A whole number as a difference of two naturals: by these laws an equation of whole numbers becomes one of naturals. Assumes nothing.
-use Rattle.std.specs.Prelude.{◌≡◌, ℕ, zero, suc, ◌+◌, ◌-◌, ◌<◌, ◌≤◌, Bool, true, false, ◌⊎◌, pos, negsuc, ◌+ℤ◌, neg_ℤ, nat_lt, refl}
+use Rattle.std.specs.Prelude.{◌≡◌, ℕ, suc, ◌+◌, ◌-◌, ◌<◌, ◌≤◌, Bool, true, false, ◌⊎◌, pos, negsuc, nat_lt, refl}
 use Rattle.std.proofs.Common.{sym, ap, ◌∙◌, inl, inr, ⊎_elim, arith, ltb-true, ltb-false, lt-ltb, le-ltb}
 use Rattle.std.proofs.Math.IntN.{sub_ℕ}
 
@@ -35,40 +35,3 @@ pos_sub n = let e : n ≡ n - 0 = omega arith in ap pos e ∙ sym (sub_pos n 0 (
 
 pub negsuc_sub : (n : ℕ) → negsuc n ≡ sub_ℕ 0 (suc n)
 negsuc_sub n = let e : n ≡ suc n - 1 = omega arith in ap negsuc e ∙ sym (sub_neg 0 (suc n) (omega arith))
-
-pub sub_add : (a b c d : ℕ) → sub_ℕ a b +ℤ sub_ℕ c d ≡ sub_ℕ (a + c) (b + d)
-sub_add a b c d = ⊎_elim (λ h. ⊎_elim (nn h) (np h) (split c d)) (λ h. ⊎_elim (pn h) (pp h) (split c d)) (split a b)
-  where
-    nn : a < b → c < d → sub_ℕ a b +ℤ sub_ℕ c d ≡ sub_ℕ (a + c) (b + d)
-    nn h k =
-        let e : suc ((b - suc a) + (d - suc c)) ≡ (b + d) - suc (a + c) = omega arith in
-        simp (sub_neg a b h, sub_neg c d k) (ap negsuc e ∙ sym (sub_neg (a + c) (b + d) (omega arith)))
-
-    np : a < b → d ≤ c → sub_ℕ a b +ℤ sub_ℕ c d ≡ sub_ℕ (a + c) (b + d)
-    np h k = simp (sub_neg a b h, sub_pos c d k) (sub_eq (c - d) (suc (b - suc a)) (a + c) (b + d) (omega arith))
-
-    pn : b ≤ a → c < d → sub_ℕ a b +ℤ sub_ℕ c d ≡ sub_ℕ (a + c) (b + d)
-    pn h k = simp (sub_pos a b h, sub_neg c d k) (sub_eq (a - b) (suc (d - suc c)) (a + c) (b + d) (omega arith))
-
-    pp : b ≤ a → d ≤ c → sub_ℕ a b +ℤ sub_ℕ c d ≡ sub_ℕ (a + c) (b + d)
-    pp h k =
-        let e : (a - b) + (c - d) ≡ (a + c) - (b + d) = omega arith in
-        simp (sub_pos a b h, sub_pos c d k) (ap pos e ∙ sym (sub_pos (a + c) (b + d) (omega arith)))
-
-pub sub_negate : (a b : ℕ) → neg_ℤ (sub_ℕ a b) ≡ sub_ℕ b a
-sub_negate a b = ⊎_elim below above (split a b)
-  where
-    -- a negative one, at its number n
-    turn : (n : ℕ) → neg_ℤ (sub_ℕ 0 n) ≡ pos n
-    turn zero = refl
-    turn (suc n) = ap neg_ℤ (sym (negsuc_sub n))
-
-    below : a < b → neg_ℤ (sub_ℕ a b) ≡ sub_ℕ b a
-    below l = ap neg_ℤ (sub_eq a b 0 (b - a) (omega arith)) ∙ turn (b - a) ∙ sym (sub_pos b a (omega arith))
-
-    turn_pos : (n : ℕ) → neg_ℤ (pos n) ≡ sub_ℕ 0 n
-    turn_pos zero = refl
-    turn_pos (suc n) = negsuc_sub n
-
-    above : b ≤ a → neg_ℤ (sub_ℕ a b) ≡ sub_ℕ b a
-    above l = ap neg_ℤ (sub_pos a b l) ∙ turn_pos (a - b) ∙ sub_eq 0 (a - b) b a (omega arith)

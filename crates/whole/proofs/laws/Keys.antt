@@ -42,9 +42,6 @@ excess_of_excess k h =
     ⊎_elim (λ l. ap excess (of_excess_is k ∙ sub_neg k (2 ^ 63) l) ∙ (omega arith))
     (λ l. ap excess (of_excess_is k ∙ sub_pos k (2 ^ 63) l) ∙ (omega arith)) (split k (2 ^ 63))
 
-pub excess_only : (a b : ℤ) → FitsSigned w64 a → FitsSigned w64 b → excess a ≡ excess b → a ≡ b
-excess_only a b fa fb e = sym (of_excess_excess a fa) ∙ ap of_excess e ∙ of_excess_excess b fb
-
 -- the order of readings is that of their keys
 pub lt_key : (a b : ℤ) → FitsSigned w64 a → FitsSigned w64 b → int_lt a b ≡ nat_lt (excess a) (excess b)
 unfolding excess

@@ -1,10 +1,9 @@
 -- The range of 64 bits: its two ends, the one bound that says the same, and what `reading` answers. Assumes nothing.
-use Rattle.std.specs.Prelude.{◌≡◌, ℕ, ◌^◌, ◌≤◌, Bool, true, false, cond, ◌&&◌, ◌⊎◌, ℤ, pos, negsuc, neg_ℤ, ◌≤ℤ◌, ◌<ℤ◌, FitsSigned, int_le, int_lt, nat_lt, refl}
-use Rattle.std.proofs.Common.{sym, ap, ◌∙◌, inl, inr, ⊎_elim, arith, le→leb, leb→le, lt→ltb, ltb→lt, lt-ltb, le-ltb, le-leb, ltb-true}
+use Rattle.std.specs.Prelude.{◌≡◌, ◌^◌, ◌≤◌, Bool, true, cond, ◌&&◌, ◌⊎◌, ℤ, pos, negsuc, neg_ℤ, ◌≤ℤ◌, ◌<ℤ◌, FitsSigned, int_le, int_lt, nat_lt, refl, Some, None}
+use Rattle.std.proofs.Common.{sym, ap, ◌∙◌, inl, inr, ⊎_elim, arith, le→leb, leb→le, lt→ltb, ltb→lt, lt-ltb, le-ltb, le-leb}
 use Rattle.std.specs.Int.Signed.{mag, le_z_yes, lt_z_yes}
 use Rattle.std.specs.Int.{w64}
 use Rattle.std.proofs.lemmas.Bool.{lt-leb}
-use Rattle.whole.specs.declared.Sum.TheVariants.{In, Out}
 use Rattle.whole.specs.Whole.{Within, reading}
 use Rattle.whole.proofs.laws.Ints.{split}
 
@@ -26,36 +25,30 @@ range_test (negsuc n) =
     (λ h. ap (λ (b : Bool). b && true) (lt-leb n 9223372036854775807 (omega arith)) ∙ sym (le-ltb n (2 ^ 63) h))
     (split n (2 ^ 63))
 
-pub reading_by : (z : ℤ) → reading z ≡ cond (nat_lt (mag z) (2 ^ 63)) (In z) Out
+pub reading_by : (z : ℤ) → reading z ≡ cond (nat_lt (mag z) (2 ^ 63)) (Some z) None
 unfolding reading
-reading_by z = ap (λ (b : Bool). cond b (In z) Out) (range_test z)
+reading_by z = ap (λ (b : Bool). cond b (Some z) None) (range_test z)
 
-pub reading_in : (z : ℤ) → FitsSigned w64 z → reading z ≡ In z
-reading_in z f = reading_by z ∙ ap (λ (b : Bool). cond b (In z) Out) (lt-ltb (mag z) (2 ^ 63) f.sfits)
+pub reading_in : (z : ℤ) → FitsSigned w64 z → reading z ≡ Some z
+reading_in z f = reading_by z ∙ ap (λ (b : Bool). cond b (Some z) None) (lt-ltb (mag z) (2 ^ 63) f.sfits)
 
-pub reading_out : (z : ℤ) → 2 ^ 63 ≤ mag z → reading z ≡ Out
-reading_out z h = reading_by z ∙ ap (λ (b : Bool). cond b (In z) Out) (le-ltb (mag z) (2 ^ 63) h)
+pub reading_out : (z : ℤ) → 2 ^ 63 ≤ mag z → reading z ≡ None
+reading_out z h = reading_by z ∙ ap (λ (b : Bool). cond b (Some z) None) (le-ltb (mag z) (2 ^ 63) h)
 
--- what is In is the number itself, and fits
-pub in_reading : (z u : ℤ) → reading z ≡ In u → (z ≡ u) × FitsSigned w64 z
-in_reading z u e = go (nat_lt (mag z) (2 ^ 63)) refl (sym (reading_by z) ∙ e)
-  where
-    go : (b : Bool) → nat_lt (mag z) (2 ^ 63) ≡ b → cond (nat_lt (mag z) (2 ^ 63)) (In z) Out ≡ In u → (z ≡ u) × FitsSigned w64 z
-    go true t k = (same (ap (λ (b : Bool). cond b (In z) Out) (sym t) ∙ k), record { sfits = ltb-true (mag z) (2 ^ 63) t })
-      where
-        same : In z ≡ In u → z ≡ u
-        same k = cc
-    go false t k = let n : ◌≡◌ {A = ℕ} 0 1 = never (ap (λ (b : Bool). cond b (In z) Out) (sym t) ∙ k) in let z : ⊥ = omega arith in absurd z
-      where
-        never : Out ≡ In u → ◌≡◌ {A = ℕ} 0 1
-        never k = cc
+-- what does not fit is no reading
+pub reading_not : (z : ℤ) → (FitsSigned w64 z → ⊥) → reading z ≡ None
+reading_not z n = ⊎_elim (λ h. absurd (n (record { sfits = h }))) (reading_out z) (split (mag z) (2 ^ 63))
 
--- what is Out does not fit
-pub out_reading : (z : ℤ) → reading z ≡ Out → FitsSigned w64 z → ⊥
-out_reading z e f = let k : In z ≡ Out = sym (reading_in z f) ∙ e in let n : ◌≡◌ {A = ℕ} 0 1 = cc in omega arith
+-- what is Some is the number itself, and fits
+pub in_reading : (z u : ℤ) → reading z ≡ Some u → (z ≡ u) × FitsSigned w64 z
+in_reading z u e = ⊎_elim (λ h. let f : FitsSigned w64 z = record { sfits = h } in let k : Some z ≡ Some u = sym (reading_in z f) ∙ e in (cc, f)) (λ h. let k : None ≡ Some u = sym (reading_out z h) ∙ e in cc) (split (mag z) (2 ^ 63))
+
+-- what is None does not fit
+pub out_reading : (z : ℤ) → reading z ≡ None → FitsSigned w64 z → ⊥
+out_reading z e f = let k : Some z ≡ None = sym (reading_in z f) ∙ e in cc
 
 -- outside the range is below the one end or not below the other
-pub outside_out : (z : ℤ) → (z <ℤ neg_ℤ (pos (2 ^ 63))) ⊎ (pos (2 ^ 63) ≤ℤ z) → reading z ≡ Out
+pub outside_out : (z : ℤ) → (z <ℤ neg_ℤ (pos (2 ^ 63))) ⊎ (pos (2 ^ 63) ≤ℤ z) → reading z ≡ None
 outside_out z o = reading_out z (⊎_elim (below z) (above z) o)
   where
     below : (z : ℤ) → z <ℤ neg_ℤ (pos (2 ^ 63)) → 2 ^ 63 ≤ mag z
@@ -66,7 +59,7 @@ outside_out z o = reading_out z (⊎_elim (below z) (above z) o)
     above (pos n) h = leb→le (2 ^ 63) n h.le
     above (negsuc n) h = absurd h.le
 
-pub out_outside : (z : ℤ) → reading z ≡ Out → (z <ℤ neg_ℤ (pos (2 ^ 63))) ⊎ (pos (2 ^ 63) ≤ℤ z)
+pub out_outside : (z : ℤ) → reading z ≡ None → (z <ℤ neg_ℤ (pos (2 ^ 63))) ⊎ (pos (2 ^ 63) ≤ℤ z)
 out_outside z e = ⊎_elim (λ h. absurd (out_reading z e (record { sfits = h }))) (λ h. side z h) (split (mag z) (2 ^ 63))
   where
     side : (z : ℤ) → 2 ^ 63 ≤ mag z → (z <ℤ neg_ℤ (pos (2 ^ 63))) ⊎ (pos (2 ^ 63) ≤ℤ z)

@@ -18,7 +18,7 @@ put_placed-b-requires c = let a = c.put_decimal-a.ensures in
 pub put-requires : goal.put-requires
 put-requires c = let a = c.put_decimal-a.ensures in
     let b = rw (to_z-of_z c.ranges.time) at c.put_placed-b.ensures in
-    (put_length b.1 ∙ (put_length a ∙ zeros_long 96), omega (arith, b.0, decimal_few 19 c.args.k (omega (arith, c.ranges.k))))
+    omega (arith, put_length b.1 ∙ (put_length a ∙ zeros_long 96), b.0, decimal_few 19 c.args.k (omega (arith, c.ranges.k)))
 
 pub returns-then-kind-lt4 : goal.returns-then-kind-lt4
 returns-then-kind-lt4 c = let a = c.put_decimal-a.ensures in
@@ -33,7 +33,7 @@ put_dropped-b-requires c = let a = c.put_decimal-a.ensures in
 pub put-requires-2 : goal.put-requires-2
 put-requires-2 c = let a = c.put_decimal-a.ensures in
     let b = c.put_dropped-b.ensures in
-    (put_length b.1 ∙ (put_length a ∙ zeros_long 96), omega (arith, b.0, decimal_few 19 c.args.k (omega (arith, c.ranges.k))))
+    omega (arith, put_length b.1 ∙ (put_length a ∙ zeros_long 96), b.0, decimal_few 19 c.args.k (omega (arith, c.ranges.k)))
 
 pub returns : goal.returns
 returns c = let a = c.put_decimal-a.ensures in

@@ -1,13 +1,9 @@
--- `written::events_of` meets its contract, case by case.
+-- `written::events_of` meets its contract: a refusal has none.
 -- Assumes nothing.
-use mathlib.Core.Path.{sym, ap}
+use borrow.Author.Rules.{rules}
 use Rattle.written.specs.Written.{events_of}
 use Rattle.written.proofs.events_of.Goals as goal
 
-pub returns-in-Refused : goal.returns-in-Refused
+pub returns : goal.returns
 unfolding events_of
-returns-in-Refused c = sym (ap events_of c.in-Refused.is)
-
-pub returns-in-Merged : goal.returns-in-Merged
-unfolding events_of
-returns-in-Merged c = sym (ap events_of c.in-Merged.is)
+returns c = search rules

@@ -1,15 +1,14 @@
 -- How long the lines are at most, and that a line is read back from the memory that holds it: for those who write it out. Assumes nothing.
-use Rattle.std.specs.Prelude.{◌≡◌, Bool, true, false, List, ◌++◌, ℕ, ◌+◌, ◌-◌, ◌^◌, ◌≤◌, ◌<◌, ltb, ℤ, length, take, replicate}
+use Rattle.std.specs.Prelude.{◌≡◌, Bool, true, false, List, ◌++◌, ℕ, ◌+◌, ◌-◌, ◌^◌, ◌≤◌, ◌<◌, ltb, ℤ, length, take, replicate, Option, None, Some}
 use Rattle.std.proofs.Common.{ap, arith, length-append, SFits}
 use Rattle.std.proofs.lemmas.List.{length-replicate}
 use Rattle.std.proofs.Math.Seq.{take-append_seam}
 use Rattle.std.specs.Int.{w64}
 use Rattle.text.specs.Reading.{pick}
 use Rattle.manifest.specs.Names.{bytes}
-use Rattle.merged.specs.declared.Trace.{Trace}
-use Rattle.merged.specs.declared.Trace.TheVariants.{Nothing, On}
+use Rattle.numbers.specs.declared.Clock.{Clock}
 use Rattle.merged.specs.declared.Summary.{Summary}
-use Rattle.merged.specs.declared.Answer.TheVariants.{Refused, Merged}
+use Rattle.merged.specs.Answers.{Refused, Merged}
 use Rattle.merged.specs.Merged.{padded}
 use Rattle.written.specs.Written.{decimal, signed, line_feed, trace_text, first_line, event_line}
 use Rattle.written.proofs.laws.Decimal.{decimal_few}
@@ -31,14 +30,14 @@ unfolding first_line
 refused_few n h = simp length-append (omega (arith, decimal_few 2 n (omega arith)))
 
 -- a trace-time clock is a number of 16 bits
-abbrev pub Short : Trace → Type 0
-Short Nothing = Unit
-Short (On c) = c.0 < 65536
+abbrev pub Short : Option Clock → Type 0
+Short None = Unit
+Short (Some c) = c.0 < 65536
 
-trace_few : (t : Trace) → Short t → length (trace_text t) ≤ 5
+trace_few : (t : Option Clock) → Short t → length (trace_text t) ≤ 5
 unfolding trace_text
-trace_few Nothing h = omega arith
-trace_few (On c) h = decimal_few 4 c.0 (omega arith)
+trace_few None h = omega arith
+trace_few (Some c) h = decimal_few 4 c.0 (omega arith)
 
 pub merged_few : (s : Summary) → s.files < 256 → s.machines < 256 → Short s.trace → length (first_line (Merged s)) ≤ 38
 unfolding first_line

@@ -9,7 +9,7 @@ use native.Mathlib.Omega.{arith}
 use Rattle.std.proofs.Math.ListN.{length, replicate}
 use Rattle.std.proofs.lemmas.Bool.{lt-leb}
 use Rattle.text.specs.laws.Readers.{pick_true, pick_false}
-use Rattle.merged.specs.declared.Answer.{Answer}
+use Rattle.merged.specs.Answers.{Answer}
 use Rattle.merged.specs.Merged.{padded}
 use Rattle.written.specs.Written.{first_line, event_line, events_of, event_lines, lines_of, lines_in}
 use Rattle.written.specs.laws.Put.{Put, put_none, put_more, put_same, put_ends, put_length, put_padded, zeros_long}

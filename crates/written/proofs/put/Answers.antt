@@ -1,15 +1,19 @@
--- `written::put` meets its contract: the invariant is that the first j bytes of the text are put in.
+-- `written::put` meets its contract: what is copied stands between what was before it and what was behind.
 -- Assumes nothing.
+use mathlib.Core.Path.{◌≡◌, refl, ap, ◌∙◌}
+use mathlib.Core.List.{◌++◌}
+use Prim.Native.Nat.{ℕ, ◌+◌, ◌-◌}
 use native.Mathlib.Omega.{arith}
-use lib.Seq.{take_all}
-use Rattle.written.specs.laws.Put.{put_none, put_next, put_same}
+use Rattle.std.proofs.Common.{drop-drop}
+use lib.ListN.{length, take, drop}
 use Rattle.written.proofs.put.Goals as goal
 
-pub loop-j-init : goal.loop-j-init
-loop-j-init c = (omega arith, put_none _ _ (omega (arith, c.requires.0, c.requires.1)))
-
-pub loop-j-preserved : goal.loop-j-preserved
-loop-j-preserved c = (omega arith, put_next _ _ c.loop-j.invariant.1 c.loop-j-test.true (omega (arith, c.requires.0, c.requires.1)))
-
 pub returns : goal.returns
-returns c = put_same (take_all _ _ c.loop-j-test.false) c.loop-j.invariant.1
+returns c =
+    let l = c.args in
+    let end : l.at + (l.at + length l.text.now - l.at) ≡ l.at + length l.text.now = omega arith in
+    record {
+      fits = c.requires;
+      ends = refl;
+      is = λ i. take l.at l.out.now ++ (c.copy_from_slice.ensures.after i ++ (drop-drop (l.at + length l.text.now - l.at) l.at l.out.now ∙ ap (λ (n : ℕ). drop n l.out.now) end) i);
+    }

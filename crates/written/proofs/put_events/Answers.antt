@@ -15,17 +15,11 @@ loop-k-init c = told_none _ _ _ (omega (arith, c.requires))
 pub put_event-end-requires : goal.put_event-end-requires
 put_event-end-requires c = omega (arith, c.loop-k-test.true, c.loop-k.invariant.within, put_length c.loop-k.invariant.is, c.requires)
 
-pub overflow_add-k : goal.overflow_add-k
-overflow_add-k c = omega (arith, c.loop-k-test.true, c.ranges.n)
-
-pub loop-k-smaller : goal.loop-k-smaller
-loop-k-smaller c = omega (arith, c.loop-k-test.true)
-
 pub loop-k-preserved : goal.loop-k-preserved
 loop-k-preserved c =
-    let f : SFits w64 c.time_at.result = search rules in
+    let f : SFits w64 c.told_at.result = search rules in
     let e = rw (to_z-of_z f) at c.put_event-end.ensures in
-    told_next c.loop-k.invariant c.loop-k-test.true c.time_at.ensures c.kind_at.ensures c.steps_at.ensures e
+    told_next c.loop-k.invariant c.loop-k-test.true c.told_at.ensures c.told_at-in-loop-k.ensures c.told_at-in-loop-k-2.ensures e
 
 pub returns : goal.returns
 returns c = told_all c.loop-k.invariant c.loop-k-test.false

@@ -1,12 +1,21 @@
 -- `written::put_first` meets its contract: the line's bytes, taken out of its own memory, are put in.
 -- Assumes nothing.
+use native.Mathlib.Omega.{arith}
+use Rattle.std.proofs.Common.{length-take-le}
+use Rattle.merged.specs.Answers.{told}
 use Rattle.written.specs.Written.{first_line}
 use Rattle.written.specs.laws.Put.{put_same}
 use Rattle.written.proofs.laws.Told.{line_taken, line_within}
 use Rattle.written.proofs.put_first.Goals as goal
 
-pub put_in-requires : goal.put_in-requires
-put_in-requires c = (line_within (first_line c.args.answer) c.first_line-n.ensures, c.requires)
+pub put-requires : goal.put-requires
+put-requires c =
+    let fits = line_within (first_line (told c.args.answer)) c.first_line-n.ensures in
+    omega (arith, length-take-le c.first_line-n.result c.first_line-n.new.out fits, fits, c.first_line-n.array_long, c.requires)
 
 pub returns : goal.returns
-returns c = let e = c.first_line-n.ensures in let p = c.put_in.ensures in (p.0, put_same (line_taken _ e) p.1)
+returns c =
+    let fits = line_within (first_line (told c.args.answer)) c.first_line-n.ensures in (
+      omega (arith, c.put.ensures.ends, length-take-le c.first_line-n.result c.first_line-n.new.out fits, fits, c.first_line-n.array_long),
+      put_same (line_taken _ c.first_line-n.ensures) c.put.ensures,
+    )

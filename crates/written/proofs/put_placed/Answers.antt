@@ -15,7 +15,7 @@ put_signed-b-requires c = let a = c.put-a.ensures in
 pub put-c-requires : goal.put-c-requires
 put-c-requires c = let a = c.put-a.ensures in
     let b = rw (to_z-of_z c.ranges.time) at c.put_signed-b.ensures in
-    (put_length b ∙ (put_length a ∙ c.requires.0), omega (arith, c.requires.1, signed_few c.args.time c.ranges.time))
+    omega (arith, put_length b ∙ (put_length a ∙ c.requires.0), c.requires.1, signed_few c.args.time c.ranges.time)
 
 pub put_decimal-d-requires : goal.put_decimal-d-requires
 put_decimal-d-requires c = let a = c.put-a.ensures in
@@ -29,10 +29,7 @@ pub put-e-requires : goal.put-e-requires
 put-e-requires c = let a = c.put-a.ensures in
     let b = rw (to_z-of_z c.ranges.time) at c.put_signed-b.ensures in
     let d = c.put-c.ensures in
-    let e = c.put_decimal-d.ensures in (
-      put_length e ∙ (put_length d ∙ (put_length b ∙ (put_length a ∙ c.requires.0))),
-      omega (arith, c.requires.1, signed_few c.args.time c.ranges.time, decimal_few 2 c.args.graph (omega (arith, c.ranges.graph))),
-    )
+    let e = c.put_decimal-d.ensures in omega (arith, put_length e ∙ (put_length d ∙ (put_length b ∙ (put_length a ∙ c.requires.0))), c.requires.1, signed_few c.args.time c.ranges.time, decimal_few 2 c.args.graph (omega (arith, c.ranges.graph)))
 
 pub put_decimal-requires : goal.put_decimal-requires
 put_decimal-requires c = let a = c.put-a.ensures in

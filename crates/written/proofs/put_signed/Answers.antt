@@ -21,7 +21,7 @@ returns-then-p-lt9223372036854775808 c = let e = rw (to_z-of_z c.ranges.z) at c.
 pub put-next-requires : goal.put-next-requires
 put-next-requires c = let e = rw (to_z-of_z c.ranges.z) at c.pattern_of-p.ensures in
     let l = signed_high _ _ c.ranges.z e c.if-p-lt9223372036854775808.false in
-    (c.requires.0, omega (arith, ap length l, c.requires.1))
+    omega (arith, c.requires.0, ap length l, c.requires.1)
 
 pub put_decimal-requires-2 : goal.put_decimal-requires-2
 put_decimal-requires-2 c = let e = rw (to_z-of_z c.ranges.z) at c.pattern_of-p.ensures in

@@ -13,7 +13,7 @@ put_decimal-b-requires c = let a = c.put-a.ensures in
 pub put-c-requires : goal.put-c-requires
 put-c-requires c = let a = c.put-a.ensures in
     let b = c.put_decimal-b.ensures in
-    (put_length b ∙ (put_length a ∙ c.requires), omega (arith, decimal_few 2 c.args.files (omega (arith, c.ranges.files))))
+    omega (arith, put_length b ∙ (put_length a ∙ c.requires), decimal_few 2 c.args.files (omega (arith, c.ranges.files)))
 
 pub put_decimal-d-requires : goal.put_decimal-d-requires
 put_decimal-d-requires c = let a = c.put-a.ensures in
@@ -27,10 +27,7 @@ pub put-e-requires : goal.put-e-requires
 put-e-requires c = let a = c.put-a.ensures in
     let b = c.put_decimal-b.ensures in
     let d = c.put-c.ensures in
-    let e = c.put_decimal-d.ensures in (
-      put_length e ∙ (put_length d ∙ (put_length b ∙ (put_length a ∙ c.requires))),
-      omega (arith, decimal_few 2 c.args.files (omega (arith, c.ranges.files)), decimal_few 2 c.args.machines (omega (arith, c.ranges.machines))),
-    )
+    let e = c.put_decimal-d.ensures in omega (arith, put_length e ∙ (put_length d ∙ (put_length b ∙ (put_length a ∙ c.requires))), decimal_few 2 c.args.files (omega (arith, c.ranges.files)), decimal_few 2 c.args.machines (omega (arith, c.ranges.machines)))
 
 pub put_trace-requires : goal.put_trace-requires
 put_trace-requires c = let a = c.put-a.ensures in

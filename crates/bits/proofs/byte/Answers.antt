@@ -1,7 +1,0 @@
--- `byte` gives the byte at k, 0 past the end: inside by reading it, outside by the default of `get_or`. Assumes nothing.
-use mathlib.Core.Path.{sym}
-use lib.ListN.{get_or-eq_default}
-use Rattle.bits.proofs.byte.Goals as goal
-
-pub returns-else-k-s : goal.returns-else-k-s
-returns-else-k-s c = sym (get_or-eq_default c.args.s.now 0 c.if-k-s.false)

@@ -1,0 +1,2 @@
+-- What is proved of the numbers.
+pub mod Theorems

@@ -1,0 +1,2 @@
+-- The refusals by name and by number.
+pub mod Refusals

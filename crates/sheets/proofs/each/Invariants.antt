@@ -1,6 +1,0 @@
--- `sheets::each` is safe and ends: each turn passes a line. Assumes nothing.
-use Rattle.std.proofs.Common.{◌-◌, length}
-use Rattle.sheets.proofs.each.Given as goal
-
-abbrev pub decreases-loop-at : goal.decreases-loop-at
-decreases-loop-at g l = length l.s - l.at

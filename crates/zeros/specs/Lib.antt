@@ -1,2 +1,0 @@
--- Memories of zeros. In reading order.
-pub mod laws

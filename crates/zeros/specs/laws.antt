@@ -1,3 +1,0 @@
--- Laws for the proofs.
-pub mod Clear
-pub mod Fronts
