@@ -110,7 +110,13 @@ fn write_lines(
     steps: &[u16],
 ) -> io::Result<()> {
     let mut out = [0u8; 671136];
-    let n = written::lines(answer, times, kinds, steps, &mut out);
+    let n = written::lines(
+        answer.map_err(|r| r.number()),
+        times,
+        kinds,
+        steps,
+        &mut out,
+    );
     rt.write_all(&out[..n])
 }
 

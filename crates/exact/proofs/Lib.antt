@@ -1,4 +1,3 @@
 -- What is proved over the definitions of `exact`.
 pub mod laws
 pub mod Exact
-pub mod Told

@@ -2,3 +2,4 @@
 pub mod laws
 pub mod Demands
 pub mod Examples
+pub mod Told

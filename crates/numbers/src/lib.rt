@@ -17,7 +17,7 @@ const FILES: u8 = 32;
 const PRIVATE: u16 = 192;
 
 // What is numbered from the number of clocks on is no clock. The definitions of document 01 count so, which is why it is no Option.
-const NO_CLOCK: Clock = Clock(224);
+const NO_CLOCK: Clock = Clock(CLOCKS as u16);
 
 // A file of the sheet, from 0.
 #[derive(Clone, Copy, Debug, Default, PartialEq, Eq)]

@@ -1,12 +1,13 @@
--- A number tells its refusal: what is promised of a number is promised of the refusal. By the way back, from each number to its refusal. Assumes nothing.
-use Rattle.std.specs.Prelude.{◌≡◌, ℕ, Option, Some, None, eqb, cond}
+-- A number tells its refusal, and a result that is told by it: what is promised of a number is promised of the refusal. By the way back, from each number to its
+-- refusal. Assumes nothing.
+use Rattle.std.specs.Prelude.{◌≡◌, ℕ, Option, Some, None, Result, Ok, Err, ⊤, eqb, cond}
 use Rattle.std.proofs.Common.{refl, sym, ap, ◌∙◌}
 use Rattle.refusals.specs.declared.Refusal.{Refusal}
 use Rattle.refusals.specs.declared.Refusal.TheVariants.{ManifestTooLong, StartBytesAbsent, NotJson, TooManyLevels, MemberBesideManifest, NoVersion, VersionNot1, KnownMemberTwice, WrongTypeOrAbsent, Size, UnknownClockName, MachineWithMachines, EmptyMachineName, IdOutOfRange, PathOrIdTwice, ClocksWithoutSyncTo, MachineWithoutFile, SyncToWithoutFile, FileNamesNoEntry, NoMachineOfASplitFile, MachineNotDeclared, OffsetNotAnInteger, OffsetOutOfRange, ClockRelatedToItself, SheetEmptyOrTooLong, RecordCutOff, WrongKindOfRecord, WrongField, SomethingAfterTheEnd, TooManyRecords, PathOrSourceTwice, PathNotInSheet, ClocksOnAContainer, IdNotDeclared, MachineOnSeveralSources, PinnedFileWithASnapshot, TooManyMachines, MemoryTooShort}
-use Rattle.refusals.specs.Refusals.{number}
+use Rattle.refusals.specs.Refusals.{number, refused}
 
 -- the refusal of a number
-abbrev named : ℕ → Option Refusal
+abbrev pub named : ℕ → Option Refusal
 named n =
     cond (eqb n 1) (Some ManifestTooLong) (
     cond (eqb n 2) (Some StartBytesAbsent) (
@@ -48,7 +49,7 @@ named n =
     cond (eqb n 38) (Some MemoryTooShort) (
     None))))))))))))))))))))))))))))))))))))))
 
-named_by_number : (r : Refusal) → named (number r) ≡ Some r
+pub named_by_number : (r : Refusal) → named (number r) ≡ Some r
 named_by_number ManifestTooLong = refl
 named_by_number StartBytesAbsent = refl
 named_by_number NotJson = refl
@@ -88,13 +89,27 @@ named_by_number PinnedFileWithASnapshot = refl
 named_by_number TooManyMachines = refl
 named_by_number MemoryTooShort = refl
 
-abbrev or_else : Refusal → Option Refusal → Refusal
+abbrev or_else : {A : Type 0} → A → Option A → A
 or_else a (Some x) = x
 or_else a None = a
 
-some_same : {a b : Refusal} → Some a ≡ Some b → a ≡ b
-some_same {a} e = ap (or_else a) e
+-- what has a way back is told by what it is made into
+pub back_tells : {A B : Type 0} (f : A → B) (back : B → Option A) → ((a : A) → back (f a) ≡ Some a) → (a b : A) → f a ≡ f b → a ≡ b
+back_tells f back known a b e = ap (or_else a) (sym (known a) ∙ ap back e ∙ known b)
 
 -- two refusals of one number are one
 pub number_tells : (a b : Refusal) → number a ≡ number b → a ≡ b
-number_tells a b e = some_same (sym (named_by_number a) ∙ ap named e ∙ named_by_number b)
+number_tells = back_tells number named named_by_number
+
+-- the result that a number stands for: 0 for no refusal
+abbrev result_of : Option Refusal → Result ⊤ Refusal
+result_of None = Ok tt
+result_of (Some r) = Err r
+
+result_known : (a : Result ⊤ Refusal) → Some (result_of (named (refused a))) ≡ Some a
+result_known (Ok x) = refl
+result_known (Err r) = ap (λ o. Some (result_of o)) (named_by_number r)
+
+-- two results that are a refusal or nothing are one where they are told by one number
+pub refused_tells : (a b : Result ⊤ Refusal) → refused a ≡ refused b → a ≡ b
+refused_tells = back_tells refused (λ n. Some (result_of (named n))) result_known

@@ -1,5 +1,6 @@
 -- The refusals by number, as document 01 counts them; and a result that may be a refusal, by number.
-use Rattle.std.specs.Prelude.{ℕ, Result, Ok, Err}
+use Rattle.std.specs.Prelude.{ℕ, List, ◌++◌, Result, Ok, Err, codes}
+use Rattle.std.specs.Fmt.{decimal}
 use Rattle.refusals.specs.declared.Refusal.{Refusal}
 use Rattle.refusals.specs.declared.Refusal.TheVariants.{ManifestTooLong, StartBytesAbsent, NotJson, TooManyLevels, MemberBesideManifest, NoVersion, VersionNot1, KnownMemberTwice, WrongTypeOrAbsent, Size, UnknownClockName, MachineWithMachines, EmptyMachineName, IdOutOfRange, PathOrIdTwice, ClocksWithoutSyncTo, MachineWithoutFile, SyncToWithoutFile, FileNamesNoEntry, NoMachineOfASplitFile, MachineNotDeclared, OffsetNotAnInteger, OffsetOutOfRange, ClockRelatedToItself, SheetEmptyOrTooLong, RecordCutOff, WrongKindOfRecord, WrongField, SomethingAfterTheEnd, TooManyRecords, PathOrSourceTwice, PathNotInSheet, ClocksOnAContainer, IdNotDeclared, MachineOnSeveralSources, PinnedFileWithASnapshot, TooManyMachines, MemoryTooShort}
 
@@ -43,6 +44,10 @@ number MachineOnSeveralSources = 35
 number PinnedFileWithASnapshot = 36
 number TooManyMachines = 37
 number MemoryTooShort = 38
+
+-- the text of a refusal: "Otherwise `refused N` alone"
+abbrev pub refused_text : Refusal → List ℕ
+refused_text r = codes "refused " ++ decimal (number r)
 
 -- the number of the refusal that a result is; 0 of a result that is none
 abbrev pub refused : {A : Type 0} → Result A Refusal → ℕ

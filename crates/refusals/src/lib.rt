@@ -1,8 +1,8 @@
-// The refusals of document 01: each has a name here and its number. Nothing else gives a refusal a number.
+// The refusals of document 01: each has a name here and its number. The crates that read a manifest tell theirs by number alone; `known` names them.
 #![tactic(auto)]
 
-ghost use Rattle.std.specs.Prelude.{◌≡◌};
-ghost use Rattle.refusals.specs.Refusals.{number};
+ghost use Rattle.std.specs.Prelude.{◌≡◌, Some};
+ghost use Rattle.refusals.specs.Refusals.{number, refused_text};
 
 use std::error::Error;
 use std::fmt;
@@ -59,7 +59,10 @@ impl Refusal {
     }
 }
 
+// As the first line of an answer says it.
 impl fmt::Display for Refusal {
+    ghost output = { λ r. Some (refused_text r) };
+
     fn fmt<W: fmt::Write>(&self, f: &mut fmt::Formatter<W>) -> fmt::Result {
         write!(f, "refused {}", self.number())
     }

@@ -37,11 +37,11 @@ unfolding read_of pick
 read_fits s z h = simp (ne_eqb (length s) 0 z, le-ltb 65536 (length s) h)
 
 on_bad : {s : List ℕ} {st : State} {o : Out} {e : Ended} {k : ℕ} → Both s st o e → at_fault k ≡ e → o ≡ refused k
-on_bad bad h = cc
+on_bad (bad k) h = cc
 on_bad (good rd) h = let z : ◌≡◌ {A = ℕ} 0 1 = cc in absurd (omega arith)
 
 on_good : {s : List ℕ} {st : State} {o : Out} {e : Ended} {n : State} → Both s st o e → at_end n ≡ e → (rs : List Record) × (o ≡ records rs) × Reads s st rs n
-on_good bad h = let z : ◌≡◌ {A = ℕ} 0 1 = cc in absurd (omega arith)
+on_good (bad k) h = let z : ◌≡◌ {A = ℕ} 0 1 = cc in absurd (omega arith)
 on_good {s} {st} {n = n} (good {rs} {e} rd) h = let q : e ≡ n = cc in (rs, refl, subst (λ (m : State). Reads s st rs m) q rd)
 
 module _ (s : List ℕ) (some : length s ≡ 0 → ⊥) (short : length s ≤ 65536) where

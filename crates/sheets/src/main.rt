@@ -4,7 +4,7 @@
 // case. `=` is as many zero bytes as bring the sheet to 65,536 bytes. Any other byte is passed over.
 #![tactic(auto)]
 
-ghost use Rattle.std.specs.Prelude.{◌≡◌, ◌≤◌, length};
+ghost use Rattle.std.specs.Prelude.{◌≡◌, ◌≤◌, length, IfOk};
 
 use numbers::File;
 use records::{Head, Source};
@@ -13,7 +13,7 @@ use std::io;
 use std::io::Read;
 
 // The most bytes that are read of the input.
-const ROOM: u64 = 65536;
+const ROOM: usize = 65536;
 
 // The value of a hexadecimal digit; None of any other byte.
 fn digit(b: u8) -> Option<u8> {
@@ -206,9 +206,25 @@ fn read_back(rt: &impl Print) -> io::Result<()> {
     read_event(rt, s)
 }
 
+// Reads until a buffer is full or the input ends; how many bytes the buffer has then.
+fn read_full(input: &mut impl Read, buf: &mut [u8]) -> io::Result<usize>
+    ensures { IfOk result (λ n. n ≤ length buf.new) }
+{
+    let mut done: usize = 0;
+    while done < buf.len() {
+        let n = input.read(&mut buf[done..])?;
+        if n == 0 {
+            break;
+        }
+        done += n;
+    }
+    Ok(done)
+}
+
+// The input lies in a buffer, so that no memory is asked for that can lack.
 fn main(rt: HostRuntime) -> io::Result<()> {
-    let mut input = Vec::new(rt.alloc());
-    rt.reader().take(ROOM).read_to_end(&mut input)?;
-    each(&rt, &input)?;
+    let mut space = [0u8; ROOM];
+    let n = read_full(&mut rt.reader(), &mut space)?;
+    each(&rt, &space[..n])?;
     read_back(&rt)
 }

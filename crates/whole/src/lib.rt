@@ -39,13 +39,18 @@ pub fn of_key(k: u64) -> i64
     of_pattern(k.wrapping_sub(HALF))
 }
 
-// t + y - x, exactly, where 64 bits hold it: subtracted and added with wrapping, which is right where both steps leave 64 bits or neither does.
+// t + y - x, exactly, where 64 bits hold it: subtracted and added with wrapping. As a number of 64 bits the difference is 2^64 too large where t is below
+// x; the sum is held where the key of y brings that carry, or where neither is so.
 pub fn shifted(t: i64, x: i64, y: i64) -> Option<i64>
     ensures { result ≡ shifted_of t x y }
 {
-    let (difference, below) = t.overflowing_sub(x);
-    let (sum, above) = difference.overflowing_add(y);
-    if below == above { Some(sum) } else { None }
+    let difference = t.wrapping_sub(x);
+    let (_, carry) = pattern_of(difference).overflowing_add(key(y));
+    if (t < x) == carry {
+        Some(difference.wrapping_add(y))
+    } else {
+        None
+    }
 }
 
 // Whether x serves t better than b, so that the search below is one test for each x.

@@ -1,9 +1,10 @@
 -- The lines of document 01: "it writes exactly two lines, `ok files 1 machines 1 trace 5` and `0 at 5 graph 1 steps 0`. Otherwise `refused N`
 -- alone, or `0 dropped N`; with no file the trace is `-`". As bytes; each line ends in one line feed. Assumes nothing.
-use Rattle.std.specs.Prelude.{List, [], ◌∷◌, ◌++◌, ℕ, zero, suc, ◌+◌, ◌-◌, ◌*◌, ◌/◌, ◌%◌, ltb, leb, ℤ, pos, negsuc, get_or, Option, None, Some}
+use Rattle.std.specs.Prelude.{List, [], ◌∷◌, ◌++◌, ℕ, zero, suc, ◌+◌, ◌-◌, ◌*◌, ◌/◌, ◌%◌, ltb, leb, ℤ, pos, negsuc, get_or, Option, None, Some, Result, Ok, Err}
 use Rattle.text.specs.Reading.{pick}
 use Rattle.manifest.specs.Names.{bytes}
 use Rattle.numbers.specs.declared.Clock.{Clock}
+use Rattle.merged.specs.declared.Summary.{Summary}
 use Rattle.merged.specs.Answers.{Answer, Refused, Merged}
 
 -- the digits of a number below 10^k, the most significant first, without zeros in front
@@ -25,6 +26,11 @@ line_feed = 10 ∷ []
 unfoldable pub trace_text : Option Clock → List ℕ
 trace_text None = bytes "-"
 trace_text (Some c) = decimal c.0
+
+-- the answer that a result is whose error is a number
+abbrev pub numbered : Result Summary ℕ → Answer
+numbered (Ok s) = Merged s
+numbered (Err n) = Refused n
 
 -- the first line
 unfoldable pub first_line : Answer → List ℕ

@@ -3,14 +3,12 @@
 
 ghost use Rattle.std.specs.Prelude.{◌≡◌, ◌++◌, ◌+◌, ◌-◌, ◌*◌, ◌≤◌, ◌<◌, pos, length, take, get_or};
 ghost use Rattle.manifest.specs.Names.{bytes};
-ghost use Rattle.merged.specs.Answers.{told};
 ghost use Rattle.merged.specs.Merged.{padded};
-ghost use Rattle.written.specs.Written.{decimal, signed, trace_text, first_line, event_line, events_of, event_lines, lines_in};
+ghost use Rattle.written.specs.Written.{decimal, signed, trace_text, numbered, first_line, event_line, events_of, event_lines, lines_in};
 ghost use Rattle.written.specs.laws.Put.{Put};
 
 use merged::Summary;
 use numbers::Clock;
-use refusals::Refusal;
 
 // A text is put into a memory from a place on; the place past it.
 fn put(text: &[u8], at: usize, out: &mut [u8]) -> usize
@@ -103,9 +101,9 @@ fn put_summary(files: u8, machines: u8, trace: Option<Clock>, out: &mut [u8; 96]
     put_trace(trace, e, out)
 }
 
-// The first line of an answer, then zeros; how many bytes the line has.
-pub fn first_line(answer: Result<Summary, Refusal>, out: &mut [u8; 96]) -> usize
-    ensures { (result ≡ length (first_line (told answer))) × (out.new ≡ padded 0 96 (first_line (told answer))) }
+// The first line of an answer, a refusal by its number, then zeros; how many bytes the line has.
+pub fn first_line(answer: Result<Summary, u8>, out: &mut [u8; 96]) -> usize
+    ensures { (result ≡ length (first_line (numbered answer))) × (out.new ≡ padded 0 96 (first_line (numbered answer))) }
 {
     *out = [0; 96];
     match answer {
@@ -113,9 +111,9 @@ pub fn first_line(answer: Result<Summary, Refusal>, out: &mut [u8; 96]) -> usize
             let a = put_summary(s.files, s.machines, s.trace, out);
             put(b"\n", a, out)
         }
-        Err(refusal) => {
+        Err(number) => {
             let a = put(b"refused ", 0, out);
-            let b = put_decimal(refusal.number() as u64, a, out);
+            let b = put_decimal(number as u64, a, out);
             put(b"\n", b, out)
         }
     }
@@ -136,9 +134,9 @@ pub fn event_line(k: usize, time: i64, kind: u8, steps: u16, out: &mut [u8; 96])
 }
 
 // The first line is put at the front of the memory of all lines.
-fn put_first(answer: Result<Summary, Refusal>, out: &mut [u8]) -> usize
+fn put_first(answer: Result<Summary, u8>, out: &mut [u8]) -> usize
     requires { 96 ≤ length out.old }
-    ensures { (result ≤ 96) × Put out.old 0 (first_line (told answer)) result out.new }
+    ensures { (result ≤ 96) × Put out.old 0 (first_line (numbered answer)) result out.new }
 {
     let mut line: [u8; 96] = [0; 96];
     let n = first_line(answer, &mut line);
@@ -189,22 +187,22 @@ fn put_events<'a>(
 }
 
 // How many events an answer tells of.
-fn events_of(answer: Result<Summary, Refusal>) -> usize
-    ensures { result ≡ events_of (told answer) }
+fn events_of(answer: Result<Summary, u8>) -> usize
+    ensures { result ≡ events_of (numbered answer) }
 {
     answer.map_or(0, |s| s.events)
 }
 
 // All lines of an answer, then zeros; how many bytes the lines have. A memory with fewer than 96 bytes for each line gets none.
 pub fn lines<'a>(
-    answer: Result<Summary, Refusal>,
+    answer: Result<Summary, u8>,
     times: &'a [i64],
     kinds: &'a [u8],
     steps: &'a [u16],
     out: &mut [u8],
 ) -> usize
-    ensures value { result ≡ length (lines_in (length out.old) (told answer) times.now kinds.now steps.now) }
-    ensures out_after { out.new ≡ padded 0 (length out.old) (lines_in (length out.old) (told answer) times.now kinds.now steps.now) }
+    ensures value { result ≡ length (lines_in (length out.old) (numbered answer) times.now kinds.now steps.now) }
+    ensures out_after { out.new ≡ padded 0 (length out.old) (lines_in (length out.old) (numbered answer) times.now kinds.now steps.now) }
     ensures upper_bound { result ≤ length out.new }
 {
     out.fill(0);

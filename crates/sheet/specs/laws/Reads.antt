@@ -56,11 +56,11 @@ left_next {s} {st} {n} l e = go e (fit_moves l.fit e) l.turns l.enough l.same
 
 -- ---- both walks, and the relation
 pub data Both (s : List ℕ) (st : State) : Out → Ended → Type 0 where
-  bad : {k : ℕ} → Both s st (refused k) (at_fault k)
+  bad : {k : ℕ} → (k ≡ 0 → ⊥) → Both s st (refused k) (at_fault k)
   good : {rs : List Record} {e : State} → Reads s st rs e → Both s st (records rs) (at_end e)
 
 extend : {s : List ℕ} {st n : State} {r : Record} {o : Out} {e : Ended} → Seen s st.at r → Passes s st r → next st r ≡ n → Both s n o e → Both s st (before r o) e
-extend v p q bad = bad
+extend v p q (bad z) = bad z
 extend {s} v p q (good {rs} {e} rd) = good (more v p (subst (λ (m : State). Reads s m rs e) (sym q) rd))
 
 by_step : (s : List ℕ) (st : State) (out : State → Out) (end : State → Ended) → ((m : State) → Both s m (out m) (end m)) → (x : Step) → step_at s st ≡ x →
@@ -69,11 +69,11 @@ by_step s st out end ih (Next n) h =
     let q = step_apart s st h in
     extend q.0 q.1 q.2 (ih n)
 by_step s st out end ih End h = good done
-by_step s st out end ih (Bad k) h = bad
+by_step s st out end ih (Bad k) h = bad (step_fault s st h).1
 
 both : (n : ℕ) (s : List ℕ) (st : State) → Both s st (records_from n s st) (ended_from n s st)
 unfolding records_from ended_from
-both zero s st = bad
+both zero s st = bad (λ (z : ◌≡◌ {A = ℕ} 26 0). omega arith)
 both (suc n) s st = by_step s st (λ m. records_from n s m) (λ m. ended_from n s m) (λ m. both n s m) (step_at s st) refl
 
 pub walks : (s : List ℕ) → Both s start (sheet_of s) (ended_of s)

@@ -1,0 +1,2 @@
+-- What is proved over the definitions of `placed`.
+pub mod Told
